@@ -1,0 +1,8 @@
+//! A list and a text that contracts see as plain lists, for the public types of every crate above.
+#![tactic(auto)]
+
+mod list;
+mod text;
+
+pub use list::Items;
+pub use text::Text;
