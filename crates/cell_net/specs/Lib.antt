@@ -1,0 +1,4 @@
+pub mod Space
+pub mod Borders
+pub mod Runs
+pub mod Plans

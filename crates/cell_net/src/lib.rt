@@ -1,0 +1,18 @@
+//! The plain data of a question: an instance of cells, nodes, sections and trains in steps of space
+//! and time, layouts of virtual borders on it, and plans of its trains. The rules of space, time and
+//! plans are the definitions in `specs/`, on which everything above stands.
+#![tactic(auto)]
+
+mod cells;
+mod ids;
+mod labels;
+mod parts;
+mod plans;
+mod trains;
+
+pub use cells::{CellEnd, CellSpec, DirCell, End, JoinSpec};
+pub use ids::{CandidateId, CellId, NodeId, SectionId, StationId, TrainId};
+pub use labels::{CellLabel, Labels, PlaceLabel};
+pub use parts::InstanceParts;
+pub use plans::{Plan, Sweep, TrainRun};
+pub use trains::{StopSpec, TrainSpec};
