@@ -2,7 +2,9 @@
 #![tactic(auto)]
 
 mod list;
+mod rule;
 mod text;
 
 pub use list::Items;
+pub use rule::{Rule, first_break};
 pub use text::Text;
