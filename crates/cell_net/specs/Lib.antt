@@ -2,3 +2,6 @@ pub mod Space
 pub mod Borders
 pub mod Runs
 pub mod Plans
+pub mod Rules
+pub mod Refusals
+pub mod Passages

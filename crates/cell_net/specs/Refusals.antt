@@ -1,0 +1,28 @@
+-- Which rule a refusal says is broken: the first in the order, at the lowest place.
+use Rattle.std.specs.Prelude.{ℕ, ⊤}
+use Rattle.vss_lists.specs.Breaks.{HoldsOfEach, BreaksFirstAt}
+use Rattle.cell_net.specs.Rules.{HasGoodSteps, IsGoodCell, IsGoodJoin, IsGoodKept, IsGoodStation, IsGoodTrain}
+use Rattle.cell_net.specs.declared.parts.InstanceParts.{InstanceParts}
+use Rattle.cell_net.specs.declared.build.BuildRefusal.{BuildRefusal}
+use Rattle.cell_net.specs.declared.build.BuildRefusal.TheVariants.{BadSteps, BadCell, BadJoin, BadSection, BadCandidate, BadKept, BadStation, BadTrain, Memory}
+
+-- the rule that the refusal names is broken, at that place first, and every earlier rule is kept;
+-- want of memory says nothing of the parts
+abbrev pub IsRefusal : InstanceParts → BuildRefusal → Type 0
+IsRefusal p BadSteps = ¬ HasGoodSteps p
+IsRefusal p (BadCell i) = HasGoodSteps p × BreaksFirstAt (IsGoodCell p) p.cells i
+IsRefusal p (BadJoin i) =
+    HasGoodSteps p × HoldsOfEach (IsGoodCell p) p.cells × BreaksFirstAt (IsGoodJoin p) p.joins i
+IsRefusal p (BadSection i) = ⊤
+IsRefusal p (BadCandidate i) = ⊤
+IsRefusal p (BadKept i) =
+    HasGoodSteps p × HoldsOfEach (IsGoodCell p) p.cells × HoldsOfEach (IsGoodJoin p) p.joins ×
+    BreaksFirstAt (IsGoodKept p) p.kept i
+IsRefusal p (BadStation i) =
+    HasGoodSteps p × HoldsOfEach (IsGoodCell p) p.cells × HoldsOfEach (IsGoodJoin p) p.joins ×
+    HoldsOfEach (IsGoodKept p) p.kept × BreaksFirstAt (IsGoodStation p) p.stations i
+IsRefusal p (BadTrain i) =
+    HasGoodSteps p × HoldsOfEach (IsGoodCell p) p.cells × HoldsOfEach (IsGoodJoin p) p.joins ×
+    HoldsOfEach (IsGoodKept p) p.kept × HoldsOfEach (IsGoodStation p) p.stations ×
+    BreaksFirstAt (IsGoodTrain p) p.trains i
+IsRefusal p Memory = ⊤
