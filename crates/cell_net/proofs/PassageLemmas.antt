@@ -109,6 +109,7 @@ both_push joins j ps before one other =
 
 -- the order of passages doesn't matter
 pub passages_permuted : (joins : List JoinSpec) (ps qs : List Passage) → IsPermutation ps qs → ArePassagesOf joins ps → ArePassagesOf joins qs
-passages_permuted joins ps qs moved are one other =
-    (λ there. (are one other).0 (Contains-permutation qs ps _ (IsPermutation-sym ps qs moved) there),
-     λ paired. Contains-permutation ps qs _ moved ((are one other).1 paired))
+passages_permuted joins ps qs moved are one other = (
+  λ there. (are one other).0 (Contains-permutation qs ps _ (IsPermutation-sym ps qs moved) there),
+  λ paired. Contains-permutation ps qs _ moved ((are one other).1 paired),
+)

@@ -1,7 +1,11 @@
 -- Which rule a refusal says is broken: the first in the order, at the lowest place.
-use Rattle.std.specs.Prelude.{ℕ, ⊤}
+use Rattle.std.specs.Prelude.{ℕ, List, ⊤}
 use Rattle.vss_lists.specs.Breaks.{HoldsOfEach, BreaksFirstAt}
 use Rattle.cell_net.specs.Rules.{HasGoodSteps, IsGoodCell, IsGoodJoin, IsGoodKept, IsGoodStation, IsGoodTrain}
+use Rattle.cell_net.specs.Borders.{RisesAt, IsCandidate}
+use Rattle.cell_net.specs.declared.ids.CandidateId.{CandidateId}
+use Rattle.cell_net.specs.declared.layout.LayoutRefusal.{LayoutRefusal}
+use Rattle.cell_net.specs.declared.layout.LayoutRefusal.TheVariants.{NotRising, OutOfRange}
 use Rattle.cell_net.specs.declared.parts.InstanceParts.{InstanceParts}
 use Rattle.cell_net.specs.declared.build.BuildRefusal.{BuildRefusal}
 use Rattle.cell_net.specs.declared.build.BuildRefusal.TheVariants.{BadSteps, BadCell, BadJoin, BadSection, BadCandidate, BadKept, BadStation, BadTrain, Memory}
@@ -26,3 +30,9 @@ IsRefusal p (BadTrain i) =
     HoldsOfEach (IsGoodKept p) p.kept × HoldsOfEach (IsGoodStation p) p.stations ×
     BreaksFirstAt (IsGoodTrain p) p.trains i
 IsRefusal p Memory = ⊤
+
+-- the borders don't rise, first at that place; or they do, and one is no candidate, first there
+abbrev pub IsLayoutRefusal : InstanceParts → List CandidateId → LayoutRefusal → Type 0
+IsLayoutRefusal p borders (NotRising i) = BreaksFirstAt (RisesAt borders) borders i
+IsLayoutRefusal p borders (OutOfRange i) =
+    HoldsOfEach (RisesAt borders) borders × BreaksFirstAt (IsCandidate p) borders i

@@ -2,6 +2,7 @@
 use Rattle.std.specs.Prelude.{◌≡◌, ◌≢◌, ◌<◌, ◌≤◌, ◌+◌, ℕ, List, length, All, Some, slice_get}
 use Rattle.vss_lists.specs.Breaks.{HoldsOfEach, BreaksFirstAt}
 use Rattle.cell_net.specs.Space.{IsCell}
+use Rattle.cell_net.specs.Borders.{RisesAt}
 use Rattle.cell_net.specs.declared.ids.CandidateId.{CandidateId}
 use Rattle.cell_net.specs.declared.ids.CellId.{CellId}
 use Rattle.cell_net.specs.declared.ids.NodeId.{NodeId}
@@ -44,11 +45,6 @@ pub record IsGoodJoin (p : InstanceParts) (place : ℕ) (j : JoinSpec) : Type 0 
   pub node : NodeId
   pub at_one : IsNodeOf p j.one node
   pub at_other : IsNodeOf p j.other node
-
--- what stands before the place, if anything, is below this candidate
-abbrev pub RisesAt : List CandidateId → ℕ → CandidateId → Type 0
-RisesAt candidates place this =
-    (before : ℕ) (b : CandidateId) → before + 1 ≡ place → slice_get candidates before ≡ Some b → b.0 < this.0
 
 -- the kept candidates rise and are candidates
 pub record IsGoodKept (p : InstanceParts) (place : ℕ) (k : CandidateId) : Type 0 where

@@ -97,11 +97,7 @@ fn start_of(passages: &[Passage], end: u32) -> usize
 }
 
 /// That count for each of so many ends.
-fn starts_of(
-    alloc: Global,
-    passages: &[Passage],
-    ends: u32,
-) -> Result<Vec<usize>, AllocError>
+fn starts_of(alloc: Global, passages: &[Passage], ends: u32) -> Result<Vec<usize>, AllocError>
     requires { IsNonDecreasingBy (λ p. p.from) passages.now }
     ensures { IfOk result (λ starts. AreStarts passages.now starts.items × (length starts.items ≡ ends)) }
 {

@@ -1,7 +1,8 @@
 ghost use Rattle.std.specs.Prelude.{◌↔◌, All, IsTrue, ◌<◌, ◌^◌, length, MatchOption};
 ghost use Rattle.vss_lists.specs.Breaks.{HoldsOfEach, BreaksFirstAt};
 ghost use Rattle.cell_net.specs.Space.{IsCell};
-ghost use Rattle.cell_net.specs.Rules.{IsGoodKept, IsGoodStation, RisesAt};
+ghost use Rattle.cell_net.specs.Borders.{RisesAt};
+ghost use Rattle.cell_net.specs.Rules.{IsGoodKept, IsGoodStation};
 
 use super::cells::is_cell;
 use crate::ids::{CandidateId, CellId};
@@ -31,7 +32,7 @@ impl<'a> Rule<CandidateId> for KeptRule<'a> {
 }
 
 /// Whether what stands before the place, if anything, is below this candidate.
-fn rises_at(candidates: &[CandidateId], place: u32, this: CandidateId) -> bool
+pub(super) fn rises_at(candidates: &[CandidateId], place: u32, this: CandidateId) -> bool
     ensures { IsTrue result ↔ RisesAt candidates.now place this }
 {
     match place.checked_sub(1) {

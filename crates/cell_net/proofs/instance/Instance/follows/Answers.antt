@@ -6,7 +6,7 @@ use Rattle.cell_net.proofs.instance.Instance.follows.Goals as goal
 pub leads-requires-clause-here : goal.leads-requires-clause-here
 leads-requires-clause-here c =
     let few : length c.args.self.now.cells ≤ 1000 =
-      subst (λ (p : InstanceParts). length p.cells ≤ 1000) c.self.view_is c.self.invariant.0.few_cells in
+    subst (λ (p : InstanceParts). length p.cells ≤ 1000) c.self.view_is c.self.invariant.0.few_cells in
     rw c.head_of.ensures (omega arith)
 
 pub returns : goal.returns
