@@ -1,25 +1,11 @@
--- Laws of literals and of `Any`, for the soundness of derivations.
-use Rattle.std.proofs.Common.{◌≡◌, ℕ, zero, suc, Bool, true, false, cond, not, ◌⊎◌, inl, inr, List, [], ◌∷◌, refl, ap, sym, subst, ◌∙◌, arith}
-use Rattle.std.specs.Prelude.{nat_eq, Any, All, filter}
-use Rattle.std.proofs.lemmas.Bool.{eqb-true, and_parts}
+-- What known literals and `Any` tell in a valuation, for the soundness of derivations.
+use Rattle.std.proofs.Common.{◌≡◌, zero, suc, Bool, true, false, cond, not, ◌⊎◌, inl, inr, List, [], ◌∷◌, refl, sym, subst, arith}
+use Rattle.std.specs.Prelude.{Any, All, filter}
 use Rattle.std.proofs.lemmas.List.Elements.{All-head, All-tail}
 use Rattle.sat_core.specs.declared.literal.Lit.{Lit}
 use Rattle.sat_core.specs.Clauses.{negated, IsTrueIn}
 use Rattle.sat_core.specs.Hints.{is_same, is_known}
-
-bool_same : (b c : Bool) → cond b c (not c) ≡ true → b ≡ c
-bool_same true true same = refl
-bool_same true false same = cc
-bool_same false true same = cc
-bool_same false false same = refl
-
-pub is_same-true : (one other : Lit) → is_same one other ≡ true → one ≡ other
-is_same-true one other same =
-    let parts = and_parts (nat_eq one.var.0 other.var.0) (cond one.positive other.positive (not other.positive)) same in
-    let numbers : one.var.0 ≡ other.var.0 = eqb-true one.var.0 other.var.0 parts.0 in
-    let signs : one.positive ≡ other.positive = bool_same one.positive other.positive parts.1 in
-    let make : ℕ → Bool → Lit = λ n b. record { var = record { 0 = n }; positive = b } in
-    ap (λ n. make n one.positive) numbers ∙ ap (make other.var.0) signs
+use Rattle.sat_core.specs.LiteralLaws.{is_same-true}
 
 not_self : (b : Bool) → b ≡ not b → ⊥
 not_self true same = cc

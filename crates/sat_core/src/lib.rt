@@ -1,14 +1,14 @@
-// Formulas in conjunctive normal form: literals, clauses and their satisfaction, and the definitions of derived
-// steps that every solver crate cites.
+//! Formulas in conjunctive normal form: literals, clauses and their satisfaction, and the definitions of derived
+//! steps that every solver crate cites.
 #![tactic(auto)]
 
-pub mod clause;
-pub mod formula;
-pub mod literal;
+mod clause;
+mod formula;
+mod literal;
 mod pieces;
-pub mod soundness;
-pub mod step_fault;
-pub mod valuation;
+mod soundness;
+mod step_fault;
+mod valuation;
 
 pub use clause::is_clause;
 pub use formula::Formula;
@@ -16,3 +16,6 @@ pub use literal::{ClauseId, Lit, Var};
 pub use soundness::refutations_are_sound;
 pub use step_fault::StepFault;
 pub use valuation::Valuation;
+
+#[cfg(test)]
+mod tests;
