@@ -1,6 +1,7 @@
 -- Borders: the layouts of virtual borders, and the cells that are linked or separated under one.
-use Rattle.std.specs.Prelude.{◌≡◌, ◌<◌, ◌+◌, ◌⊎◌, ℕ, List, [], ◌∷◌, length, All, Any, Some, slice_get, Contains}
+use Rattle.std.specs.Prelude.{◌≡◌, ◌<◌, ◌+◌, ◌⊎◌, ℕ, List, length, All, Any, Some, slice_get, Contains}
 use Rattle.vss_lists.specs.Breaks.{HoldsOfEach}
+use Rattle.node_groups.specs.Reach.{Reaches}
 use Rattle.cell_net.specs.declared.ids.CellId.{CellId}
 use Rattle.cell_net.specs.declared.ids.NodeId.{NodeId}
 use Rattle.cell_net.specs.declared.ids.CandidateId.{CandidateId}
@@ -46,12 +47,7 @@ pub record Meet (p : InstanceParts) (borders : List CandidateId) (e f : CellId) 
   pub at_other : IsAtEnd other node
   pub free : ¬ IsBorder p borders node
 
--- from e over the listed cells to f, each meeting the next
-abbrev pub LeadsTo : InstanceParts → List CandidateId → CellId → List CellId → CellId → Type 0
-LeadsTo p borders e [] f = e ≡ f
-LeadsTo p borders e (c ∷ cs) f = Meet p borders e c × LeadsTo p borders c cs f
-
--- linked: some list of cells of one section leads from e to f, in which neighbours share a node
--- that isn't a border; the list of one cell links it with itself. Separated means not linked.
-unfoldable pub Linked : InstanceParts → List CandidateId → CellId → CellId → Type 0
-Linked p borders e f = (cells : List CellId) × LeadsTo p borders e cells f
+-- linked: some list of cells leads from e to f, each sharing a node that isn't a border with the one
+-- before it, in one section; the list of one cell links it with itself. Separated means not linked.
+abbrev pub Linked : InstanceParts → List CandidateId → CellId → CellId → Type 0
+Linked p borders = Reaches (Meet p borders)

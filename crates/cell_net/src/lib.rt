@@ -13,6 +13,7 @@ mod parts;
 mod passages;
 mod plans;
 mod rules;
+mod scene;
 mod trains;
 
 pub use build::BuildRefusal;
@@ -23,4 +24,5 @@ pub use labels::{CellLabel, Labels, PlaceLabel};
 pub use layout::{Layout, LayoutRefusal};
 pub use parts::InstanceParts;
 pub use plans::{Plan, Sweep, TrainRun};
+pub use scene::Scene;
 pub use trains::{StopSpec, TrainSpec};
