@@ -1,0 +1,6 @@
+use Rattle.std.specs.List.{AllAdjacentBelow}
+use Rattle.cell_net.specs.Space.{Follows}
+use Rattle.layout_rules.proofs.paths.follow_each_other.Given as goal
+
+abbrev pub invariant-loop-place : goal.invariant-loop-place
+invariant-loop-place l = AllAdjacentBelow (Follows l.inst) l.cells l.place
