@@ -1,1 +1,2 @@
 mod SeenCells
+mod ClassLemmas

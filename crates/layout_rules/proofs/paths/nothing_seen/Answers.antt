@@ -7,5 +7,5 @@ use Rattle.layout_rules.proofs.paths.nothing_seen.Goals as goal
 pub returns : goal.returns
 returns c cell =
     let all : slice_index_or (replicate 1000 false) cell false ≡ false =
-      elim (leb_tells 1000 cell) [ inl high ↦ get_or-eq_default (replicate 1000 false) false high.1 | inr low ↦ get_or-replicate 1000 cell false false low.1 ] in
+    elim (leb_tells 1000 cell) [ inl high ↦ get_or-eq_default (replicate 1000 false) false high.1 | inr low ↦ get_or-replicate 1000 cell false false low.1 ] in
     all
