@@ -1,5 +1,5 @@
 -- The rules that the parts of an instance keep, and which of them a refusal says is broken.
-use Rattle.std.specs.Prelude.{◌≡◌, ◌≢◌, ◌<◌, ◌≤◌, ◌+◌, ℕ, List, length, All, Some, slice_get}
+use Rattle.std.specs.Prelude.{◌≡◌, ◌≢◌, ◌<◌, ◌≤◌, ◌+◌, ◌^◌, ℕ, List, length, All, Some, slice_get}
 use Rattle.vss_lists.specs.Breaks.{HoldsOfEach, BreaksFirstAt}
 use Rattle.cell_net.specs.Space.{IsCell}
 use Rattle.cell_net.specs.Borders.{RisesAt}
@@ -76,6 +76,10 @@ pub record IsGoodTrain (p : InstanceParts) (place : ℕ) (t : TrainSpec) : Type 
   pub in_time : t.by < p.steps
   pub stops : All (IsGoodStop p) t.stops
 
+-- no train has 4,294,967,296 stops or more, which a caller of `build` knows
+abbrev pub HasFewStops : InstanceParts → Type 0
+HasFewStops p = All (λ t. length t.stops < 2 ^ 32) p.trains
+
 -- the parts keep every rule
 pub record IsInstance (p : InstanceParts) : Type 0 where
   pub steps : HasGoodSteps p
@@ -87,3 +91,4 @@ pub record IsInstance (p : InstanceParts) : Type 0 where
   pub few_cells : length p.cells ≤ 1000
   pub few_candidates : length p.candidates ≤ 512
   pub few_trains : length p.trains ≤ 32
+  pub few_stops : HasFewStops p

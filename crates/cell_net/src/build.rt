@@ -1,5 +1,5 @@
 ghost use Rattle.std.specs.Prelude.{◌<◌, ◌^◌, ◌↔◌, IsTrue, MatchResult, length};
-ghost use Rattle.cell_net.specs.Rules.{HasGoodSteps, IsInstance};
+ghost use Rattle.cell_net.specs.Rules.{HasFewStops, HasGoodSteps, IsInstance};
 ghost use Rattle.cell_net.specs.Refusals.{IsRefusal};
 
 use crate::parts::InstanceParts;
@@ -50,6 +50,7 @@ pub(crate) fn test_rules(alloc: Global, parts: &InstanceParts) -> Result<(), Bui
     requires kept { length parts.now.kept < 2 ^ 32 }
     requires stations { length parts.now.stations < 2 ^ 32 }
     requires trains { length parts.now.trains < 2 ^ 32 }
+    requires stops { HasFewStops parts.now }
     ensures { MatchResult result (λ _. IsInstance parts.now) (IsRefusal parts.now) }
 {
     if !has_good_steps(parts) {

@@ -1,6 +1,6 @@
 ghost use Rattle.std.specs.Prelude.{◌≡◌, ◌<◌, ◌^◌, ◌↔◌, All, IfErr, IfOk, IsTrue, Some, length, slice_get};
 ghost use Rattle.cell_net.specs.Space.{Follows, IsCell};
-ghost use Rattle.cell_net.specs.Rules.{IsInstance};
+ghost use Rattle.cell_net.specs.Rules.{HasFewStops, IsInstance};
 ghost use Rattle.cell_net.specs.Refusals.{IsRefusal};
 
 use crate::build::{BuildRefusal, test_rules};
@@ -42,6 +42,7 @@ impl Instance {
         requires kept { length parts.kept < 2 ^ 32 }
         requires stations { length parts.stations < 2 ^ 32 }
         requires trains { length parts.trains < 2 ^ 32 }
+        requires stops { HasFewStops parts }
         ensures parts { IfOk result (λ instance. instance ≡ parts) }
         ensures rules { IfOk result IsInstance }
         ensures refusal { IfErr result (IsRefusal parts) }

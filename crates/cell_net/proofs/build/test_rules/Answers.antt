@@ -13,4 +13,5 @@ returns c = record {
   few_cells = few_cells c.args.parts.now c.in-None.ensures;
   few_candidates = omega arith;
   few_trains = few_trains c.args.parts.now c.in-None-first_bad_train.ensures;
+  few_stops = c.requires.stops;
 }
