@@ -1,0 +1,3 @@
+mod StreakLemmas
+mod RunLemmas
+mod StopLemmas
