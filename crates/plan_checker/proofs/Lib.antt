@@ -1,3 +1,4 @@
 mod StreakLemmas
 mod RunLemmas
 mod StopLemmas
+mod JudgeLemmas

@@ -32,8 +32,8 @@ misfits_first p t r place w enters before is breaks =
         before = subst (HoldsBelow (FitsAt p t r.sweeps) r.sweeps) at before;
         item = w;
         is_there = subst (λ k. slice_get r.sweeps k ≡ Some w) at is;
-        breaks = subst (λ k. ¬ FitsAt p t r.sweeps k w) at breaks
-      }
+        breaks = subst (λ k. ¬ FitsAt p t r.sweeps k w) at breaks;
+      };
     }
 
 -- a misfit makes its fault of the run
@@ -50,7 +50,7 @@ misfit_is_fault p t r place w Join enters before is (sweep, apart) =
 pub holds_more : {X : Type 0} (P : ℕ → X → Type 0) (xs : List X) (n : ℕ) (x : X) → HoldsBelow P xs n → slice_get xs n ≡ Some x → P n x → HoldsBelow P xs (n + 1)
 holds_more {X} P xs n x before is holds k item low there =
     below_more (λ j. slice_get xs j ≡ Some item → P j item) n (λ j h at. before j item h at)
-      (λ at. let same : Some x ≡ Some item = sym is ∙ at in let e : x ≡ item = cc in subst (P n) e holds) k low there
+    (λ at. let same : Some x ≡ Some item = sym is ∙ at in let e : x ≡ item = cc in subst (P n) e holds) k low there
 
 -- the rule holds of all items below a place that is past the last
 pub holds_each : {X : Type 0} (P : ℕ → X → Type 0) (xs : List X) (n : ℕ) → HoldsBelow P xs n → length xs ≤ n → HoldsOfEach P xs

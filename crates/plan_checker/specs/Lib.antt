@@ -1,3 +1,4 @@
 pub mod Clashes
 pub mod RunFaults
 pub mod Stations
+pub mod Verdicts

@@ -1,6 +1,9 @@
 //! The judge of plans: whether a plan is lawful under a layout, or else its first breach.
 #![tactic(auto)]
 
+mod judge;
 mod runs;
 mod stops;
 mod sweeps;
+
+pub use judge::{Breach, Verdict};

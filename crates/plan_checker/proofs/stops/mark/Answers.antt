@@ -9,9 +9,10 @@ loop-cell-init c = (marks_nothing c.args.inside.now c.requires.none, refl)
 pub loop-cell-preserved : goal.loop-cell-preserved
 loop-cell-preserved c =
     let more = take_more c.args.cells.now c.loop-cell.cell-index (record { 0 = 0 }) (omega arith) in
-    let within = c.requires.within c.loop-cell.cell-index (record { 0 = 0 }) (omega arith) in
-    (rw more (mark_more _ _ c.loop-cell.inside c.loop-cell.invariant.0 (rw c.loop-cell.invariant.1 within)),
-     length-set c.loop-cell.inside _ _ ∙ c.loop-cell.invariant.1)
+    let within = c.requires.within c.loop-cell.cell-index (record { 0 = 0 }) (omega arith) in (
+      rw more (mark_more _ _ c.loop-cell.inside c.loop-cell.invariant.0 (rw c.loop-cell.invariant.1 within)),
+      length-set c.loop-cell.inside _ _ ∙ c.loop-cell.invariant.1,
+    )
 
 pub returns : goal.returns
 returns c =
