@@ -1,0 +1,4 @@
+mod ListSteps
+mod PairLemmas
+mod ClashLemmas
+mod MarkLemmas
