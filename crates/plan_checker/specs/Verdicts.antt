@@ -15,10 +15,10 @@ use Rattle.plan_checker.specs.Clashes.{IsFirstClash}
 use Rattle.plan_checker.specs.RunFaults.{IsRunFault}
 use Rattle.plan_checker.specs.declared.runs.RunFault.{RunFault}
 use Rattle.plan_checker.specs.declared.runs.RunFault.TheVariants as RunFaults
-use Rattle.plan_checker.specs.declared.judge.Breach.{Breach}
-use Rattle.plan_checker.specs.declared.judge.Breach.TheVariants as Breaches
-use Rattle.plan_checker.specs.declared.judge.Verdict.{Verdict}
-use Rattle.plan_checker.specs.declared.judge.Verdict.TheVariants as Verdicts
+use Rattle.plan_checker.specs.declared.judging.Breach.{Breach}
+use Rattle.plan_checker.specs.declared.judging.Breach.TheVariants as Breaches
+use Rattle.plan_checker.specs.declared.judging.Verdict.{Verdict}
+use Rattle.plan_checker.specs.declared.judging.Verdict.TheVariants as Verdicts
 
 -- the layout holds the kept candidate, whatever its place
 abbrev pub IsHeld : List CandidateId → ℕ → CandidateId → Type 0

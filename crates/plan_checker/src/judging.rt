@@ -1,10 +1,12 @@
 ghost use Rattle.std.specs.Prelude.{◌≡◌, ◌<◌, ℕ, All, IfOk, MatchOption, Some, length, slice_get};
 ghost use Rattle.vss_lists.specs.Breaks.{HoldsOfEach, BreaksFirstAt};
-ghost use Rattle.plan_checker.specs.Verdicts.{FailsFirst, HaveRunsBelow, IsHeld, breach_of_fault};
+ghost use Rattle.cell_net.specs.Borders.{IsBorderSet};
+ghost use Rattle.plan_checker.specs.Verdicts.{FailsFirst, HaveRunsBelow, IsHeld, IsVerdict, breach_of_fault};
 
+use crate::clashes::{Clash, first_clash};
 use crate::runs::{RunFault, run_fault};
-use cell_net::{CandidateId, CellId, Instance, Layout, TrainId, TrainRun};
-use layout_rules::SweepFault;
+use cell_net::{CandidateId, CellId, Instance, Layout, Plan, TrainId, TrainRun};
+use layout_rules::{SweepFault, classes_of};
 use std::alloc::{AllocError, Global};
 
 /// The judge's answer.
@@ -66,6 +68,49 @@ pub enum Breach {
         e: CellId,
         f: CellId,
     },
+}
+
+/// Whether the layout holds the kept borders and the plan is lawful under it, or else the first breach.
+/// A lawful plan takes time linear in the cells of all its sweeps and, for each stop, in the cells of
+/// the instance, beside the time of [`classes_of`]; memory is linear in the cells of the instance.
+pub fn judge(
+    alloc: Global,
+    inst: &Instance,
+    layout: &Layout,
+    plan: &Plan,
+) -> Result<Verdict, AllocError>
+    requires layout { IsBorderSet inst.now layout.now }
+    requires runs { length plan.now.runs ≡ length inst.now.trains }
+    requires short { All (λ r. length r.sweeps < 2000000000) plan.now.runs }
+    ensures { IfOk result (IsVerdict inst.now layout.now plan.now) }
+{
+    match first_missing(inst.kept(), layout) {
+        None => {}
+        Some(candidate) => return Ok(Verdict::Breach(Breach::Border { candidate })),
+    }
+    match first_bad_run(alloc, inst, plan.runs.as_slice()) {
+        Ok(None) => {}
+        Ok(Some(bad)) => return Ok(Verdict::Breach(breach_of(bad))),
+        Err(error) => return Err(error),
+    }
+    let classes = classes_of(alloc, inst, layout)?;
+    match first_clash(alloc, inst, layout, &classes, plan) {
+        Ok(None) => Ok(Verdict::Lawful),
+        Ok(Some(clash)) => Ok(Verdict::Breach(breach_of_clash(clash))),
+        Err(error) => Err(error),
+    }
+}
+
+fn breach_of_clash(clash: Clash) -> Breach
+    ensures { result ≡ Breach.Apart clash.a clash.b clash.step clash.e clash.f }
+{
+    Breach::Apart {
+        a: clash.a,
+        b: clash.b,
+        step: clash.step,
+        e: clash.e,
+        f: clash.f,
+    }
 }
 
 /// The first kept border that the layout lacks; linear in the kept borders for each border.
