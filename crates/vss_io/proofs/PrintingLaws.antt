@@ -26,7 +26,7 @@ PutsAllBut-add before between now kept text first keeps rest so_far added split 
   grew = added.grew ∙ ap (λ w. followed_by w added.put) so_far.grew ∙ followed_by-followed_by before so_far.put added.put;
   rest = append_assoc so_far.put added.put (keeps ++ rest)
       ∙ ap (λ w. so_far.put ++ w) (sym (append_assoc added.put keeps rest) ∙ ap (λ w. w ++ rest) added.rest ∙ split)
-      ∙ so_far.rest
+      ∙ so_far.rest;
 }
 
 -- the first of the kept bytes are put
@@ -43,7 +43,7 @@ followed_by-put before between now kept text so_far put =
 pub PutsFront-so_far : (before now : Option (List ℕ)) (kept text : List ℕ) → PutsAllBut before now kept text → PutsFront before now text
 PutsFront-so_far before now kept text so_far = record {
   count = length so_far.put;
-  grew = so_far.grew ∙ ap (followed_by before) (sym (take-append_seam so_far.put kept) ∙ ap (take (length so_far.put)) so_far.rest)
+  grew = so_far.grew ∙ ap (followed_by before) (sym (take-append_seam so_far.put kept) ∙ ap (take (length so_far.put)) so_far.rest);
 }
 
 -- a front of the first of the kept bytes is put
@@ -56,5 +56,5 @@ PutsFront-put before between now kept text first rest so_far front split =
       grew = front.grew
           ∙ ap (λ w. followed_by w (take front.count first)) so_far.grew
           ∙ followed_by-followed_by before so_far.put (take front.count first)
-          ∙ ap (followed_by before) (ap (λ w. so_far.put ++ w) (shorter ∙ ap (take count) split) ∙ sym (take-append-add so_far.put kept count) ∙ ap (take (length so_far.put + count)) so_far.rest)
+          ∙ ap (followed_by before) (ap (λ w. so_far.put ++ w) (shorter ∙ ap (take count) split) ∙ sym (take-append-add so_far.put kept count) ∙ ap (take (length so_far.put + count)) so_far.rest);
     }

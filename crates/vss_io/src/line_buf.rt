@@ -18,12 +18,13 @@ pub struct LineBuf {
 
 impl Model for LineBuf {
     ghost use Rattle.std.specs.Prelude.{List, ℕ, take, ◌<◌};
+    ghost use Rattle.vss_io.specs.declared.line_buf.TheConstants.{PIECE};
 
     ghost Value = { List ℕ };
 
     ghost view = { λ b. take b.used b.bytes };
 
-    ghost invariant = { λ b. b.used < 4096 };
+    ghost invariant = { λ b. b.used < PIECE };
 }
 
 impl LineBuf {

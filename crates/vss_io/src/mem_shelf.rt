@@ -74,6 +74,8 @@ impl Shelf for MemShelf {
     fn read_file(&mut self, name: &str, max: u64) -> Result<Vec<u8>, ShelfFault>
         ensures fails { IsErrOf result ShelfFault.Failed → IsTrue (next_fails self.old.reads) ⊎ IsNone (file_named self.old.files name.now) }
         ensures listed { IsTrue (next_fails self.old.reads) → IsErrOf result ShelfFault.Failed ⊎ IsErrOf result ShelfFault.Memory }
+        ensures noted { IsErrOf result ShelfFault.Failed → self.new.failed ≡ self.old.failed ++ name.now ∷ [] }
+        ensures not_noted { result ≢ Err ShelfFault.Failed → self.new.failed ≡ self.old.failed }
         ensures counted { self.new.reads ≡ record self.old.reads { made = min (self.old.reads.made + 1) (2 ^ 64 - 1) } }
 
         // What each shelf promises.

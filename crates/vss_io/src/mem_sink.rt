@@ -66,6 +66,8 @@ impl Sink for MemSink {
         ensures taken { self.new.written ≡ self.old.written ++ take (taken self.old (length piece.now)) piece.now }
         ensures failed { IsErr result ↔ (IsTrue (next_fails self.old.puts) ⊎ (room self.old < length piece.now)) }
         ensures counted { self.new.puts ≡ record self.old.puts { made = min (self.old.puts.made + 1) (2 ^ 64 - 1) } }
+        ensures fault { OnErr result (self.new.faults ≡ min (self.old.faults + 1) (2 ^ 64 - 1)) }
+        ensures no_fault { OnOk result (self.new.faults ≡ self.old.faults) }
         ensures same_capacity { self.new.capacity ≡ self.old.capacity }
 
         // What each sink promises.
@@ -75,7 +77,11 @@ impl Sink for MemSink {
         ensures cause { OnErr result (Rose self.old.faults self.new.faults) }
     {
         let failing = self.puts.next_fails();
-        let wanted = if failing { piece.len() / 2 } else { piece.len() };
+        let wanted = if failing {
+            piece.len() / 2
+        } else {
+            piece.len()
+        };
         let room = self.capacity - self.bytes.len();
         let taken = wanted.min(room);
         self.bytes.extend_from_slice(&piece[..taken]).unwrap();

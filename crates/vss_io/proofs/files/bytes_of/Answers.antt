@@ -1,6 +1,6 @@
-use Rattle.std.proofs.Common.{rules, ◌≡◌, ◌∙◌, ℕ, List, [], ◌∷◌, refl, ap, Bool, true, false}
-use Rattle.std.specs.Prelude.{find, string_bytes, String, Vec, cond, Option, Some}
-use Rattle.std.specs.Option.{option_copied, option_map}
+use Rattle.std.proofs.Common.{rules, ◌≡◌, ℕ, List, [], ◌∷◌, refl, true, false}
+use Rattle.std.specs.Prelude.{find, string_bytes, String, Vec, cond, Some}
+use Rattle.std.specs.Option.{option_map}
 use Rattle.std.specs.Str.{bytes_eq}
 use Rattle.vss_io.specs.Files.{named_bytes, file_named}
 use Rattle.vss_io.proofs.files.bytes_of.Goals as goal
@@ -11,7 +11,7 @@ find-named_bytes [] name = refl
 find-named_bytes (file ∷ files) name =
     elim (bytes_eq (string_bytes file.0) name) as
     (λ b. option_map (λ file. file.1.items) (cond b (Some file) (find (λ file. bytes_eq (string_bytes file.0) name) files))
-        ≡ option_map (λ file. file.1) (cond b (Some (string_bytes file.0, file.1.items)) (find (λ file. bytes_eq file.0 name) (named_bytes files))))
+    ≡ option_map (λ file. file.1) (cond b (Some (string_bytes file.0, file.1.items)) (find (λ file. bytes_eq file.0 name) (named_bytes files))))
     [ true ↦ refl | false ↦ find-named_bytes files name ]
 
 pub returns : goal.returns

@@ -15,15 +15,15 @@ pub loop-piece-preserved : goal.loop-piece-preserved
 loop-piece-preserved g c = record {
   printed = PutsAllBut-add _ _ _ _ _ _ _ _ c.loop-piece.invariant.printed c.in_ok-add.ensures.added
       (next_piece _ c.args.pieces.now c.loop-piece.piece-index _ (omega arith));
-  never_falls = omega arith
+  never_falls = omega arith;
 }
 
 pub returns-in_err-add-clause-front : goal.returns-in_err-add-clause-front
 returns-in_err-add-clause-front g c =
     PutsFront-put _ _ _ _ _ _ _ c.loop-piece.invariant.printed c.add.ensures.front
-      (next_piece _ c.args.pieces.now c.loop-piece.piece-index _ (omega arith))
+    (next_piece _ c.args.pieces.now c.loop-piece.piece-index _ (omega arith))
 
 pub returns-clause-front : goal.returns-clause-front
 returns-clause-front g c =
     PutsFront-put _ _ _ _ _ _ [] c.loop-piece.invariant.printed c.finish.ensures.front
-      (rw (at_drop_all joined c.args.pieces.now c.loop-piece.piece-index (omega arith)) (append-nil _))
+    (rw (at_drop_all joined c.args.pieces.now c.loop-piece.piece-index (omega arith)) (append-nil _))

@@ -7,5 +7,5 @@ use Rattle.vss_io.proofs.line_buf.print_line.Given as goal
 abbrev pub invariant-loop-piece : goal.invariant-loop-piece
 invariant-loop-piece g l = record {
   printed : PutsAllBut (g.K.Sink.written l.initial.out) (g.K.Sink.written l.out) (l.text ++ line (joined (drop l.piece-index l.pieces))) (line (joined l.pieces));
-  never_falls : g.K.Sink.faults l.initial.out ≤ g.K.Sink.faults l.out
+  never_falls : g.K.Sink.faults l.initial.out ≤ g.K.Sink.faults l.out;
 }

@@ -1,4 +1,4 @@
-use Rattle.std.proofs.Common.{◌≡◌, ◌++◌, arith, rules}
+use Rattle.std.proofs.Common.{arith}
 use Rattle.std.proofs.lemmas.Grind.{common_steps}
 use Rattle.vss_io.proofs.PrintingLaws.{PutsAllBut-put, PutsFront-put, PutsFront-so_far}
 use Rattle.vss_io.proofs.line_buf.LineBuf.add.Goals as goal
