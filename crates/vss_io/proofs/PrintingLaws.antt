@@ -1,4 +1,6 @@
--- How a text is printed, call after call: what is kept stands for all that is not put yet, also what is still to come.
+-- How a text is printed, call after call. The laws are for proofs of calls that print part after part:
+-- those named `-add` and `-put` where what is kept stands for all that is not put yet, also what is still to come (in
+-- loops), those named `-then` where it is what the buffer keeps of the text so far, `-after` where nothing is kept.
 use Rattle.std.proofs.Common.{◌≡◌, ℕ, ◌+◌, List, [], ◌++◌, length, take, min, refl, sym, ◌∙◌, ap, append_assoc, append-nil, arith}
 use Rattle.std.specs.Prelude.{Option, None, Some}
 use Rattle.std.proofs.lemmas.List.{take_min, take-append-le}
@@ -16,8 +18,8 @@ followed_by-followed_by None one other = refl
 followed_by-followed_by (Some bytes) one other = ap Some (append_assoc bytes one other)
 
 -- at first all is kept
-pub PutsAllBut_nothing : (written : Option (List ℕ)) (text : List ℕ) → PutsAllBut written written text text
-PutsAllBut_nothing written text = record { put = []; grew = sym (followed_by-nil written); rest = refl }
+pub PutsAllBut-nothing : (written : Option (List ℕ)) (text : List ℕ) → PutsAllBut written written text text
+PutsAllBut-nothing written text = record { put = []; grew = sym (followed_by-nil written); rest = refl }
 
 -- the first of the kept bytes are printed, but for what is kept of them
 pub PutsAllBut-add : (before between now : Option (List ℕ)) (kept text first keeps rest : List ℕ) → PutsAllBut before between kept text → PutsAllBut between now keeps first → first ++ rest ≡ kept → PutsAllBut before now (keeps ++ rest) text
@@ -58,3 +60,41 @@ PutsFront-put before between now kept text first rest so_far front split =
           ∙ followed_by-followed_by before so_far.put (take front.count first)
           ∙ ap (followed_by before) (ap (λ w. so_far.put ++ w) (shorter ∙ ap (take count) split) ∙ sym (take-append-add so_far.put kept count) ∙ ap (take (length so_far.put + count)) so_far.rest);
     }
+
+-- a front of a text is one of each longer text
+pub PutsFront-longer : (before now : Option (List ℕ)) (one other text : List ℕ) → PutsFront before now one → one ++ other ≡ text → PutsFront before now text
+PutsFront-longer before now one other text front longer =
+    PutsFront-put before before now text text one other (PutsAllBut-nothing before text) front longer
+
+-- behind a text that was put, a front of another one is a front of both together
+pub PutsFront-after : (before between now : Option (List ℕ)) (one other text : List ℕ) → between ≡ followed_by before one → PutsFront between now other → one ++ other ≡ text → PutsFront before now text
+PutsFront-after before between now one other text put front both =
+    PutsFront-put before between now other text other [] (PutsAllBut-put before before between text text one other (PutsAllBut-nothing before text) put both) front (append-nil other)
+
+-- one text after another is both together
+pub followed_by-after : (before between now : Option (List ℕ)) (one other text : List ℕ) → between ≡ followed_by before one → now ≡ followed_by between other → one ++ other ≡ text → now ≡ followed_by before text
+followed_by-after before between now one other text first second both =
+    followed_by-put before between now other text (PutsAllBut-put before before between text text one other (PutsAllBut-nothing before text) first both) second
+
+-- what is kept, and more bytes behind it
+PutsAllBut-more : (before now : Option (List ℕ)) (kept one other : List ℕ) → PutsAllBut before now kept one → PutsAllBut before now (kept ++ other) (one ++ other)
+PutsAllBut-more before now kept one other so_far = record {
+  put = so_far.put;
+  grew = so_far.grew;
+  rest = sym (append_assoc so_far.put kept other) ∙ ap (λ w. w ++ other) so_far.rest
+}
+
+-- more bytes are printed behind a text, but for what is kept then
+pub PutsAllBut-then : (before between now : Option (List ℕ)) (kept keeps one other text : List ℕ) → PutsAllBut before between kept one → PutsAllBut between now keeps (kept ++ other) → one ++ other ≡ text → PutsAllBut before now keeps text
+PutsAllBut-then before between now kept keeps one other text so_far added both =
+    rw (← both, ← append-nil keeps) (PutsAllBut-add before between now (kept ++ other) (one ++ other) (kept ++ other) keeps [] (PutsAllBut-more before between kept one other so_far) added (append-nil (kept ++ other)))
+
+-- the same, where nothing is kept then
+pub followed_by-then : (before between now : Option (List ℕ)) (kept one other text : List ℕ) → PutsAllBut before between kept one → now ≡ followed_by between (kept ++ other) → one ++ other ≡ text → now ≡ followed_by before text
+followed_by-then before between now kept one other text so_far put both =
+    rw (← both) (followed_by-put before between now (kept ++ other) (one ++ other) (PutsAllBut-more before between kept one other so_far) put)
+
+-- a front of the bytes behind a text is put
+pub PutsFront-then : (before between now : Option (List ℕ)) (kept one other rest text : List ℕ) → PutsAllBut before between kept one → PutsFront between now (kept ++ other) → one ++ (other ++ rest) ≡ text → PutsFront before now text
+PutsFront-then before between now kept one other rest text so_far front all =
+    rw (← all) (PutsFront-put before between now (kept ++ (other ++ rest)) (one ++ (other ++ rest)) (kept ++ other) rest (PutsAllBut-more before between kept one (other ++ rest) so_far) front (append_assoc kept other rest))

@@ -39,7 +39,6 @@ impl LineBuf {
     }
 
     /// Appends the bytes, and puts 4,096 bytes as one piece as soon as so many are kept. Linear in the bytes.
-    #[tactic(auto, using(crate::proofs::PrintingLaws::PutsAllBut_nothing))]
     pub fn add<K: Sink>(&mut self, bytes: &[u8], out: &mut K) -> Result<(), SinkFault>
         ensures front { PutsFront (K.written out.old) (K.written out.new) (self.old ++ bytes.now) }
         ensures added { OnOk result (PutsAllBut (K.written out.old) (K.written out.new) self.new (self.old ++ bytes.now)) }

@@ -1,7 +1,10 @@
-use Rattle.std.proofs.Common.{arith}
+use Rattle.std.proofs.Common.{refl, arith}
 use Rattle.std.proofs.lemmas.Grind.{common_steps}
-use Rattle.vss_io.proofs.PrintingLaws.{PutsAllBut-put, PutsFront-put, PutsFront-so_far}
+use Rattle.vss_io.proofs.PrintingLaws.{PutsAllBut-nothing, PutsAllBut-put, PutsFront-put, PutsFront-so_far}
 use Rattle.vss_io.proofs.line_buf.LineBuf.add.Goals as goal
+
+pub loop-rest-init : goal.loop-rest-init
+loop-rest-init g c = record { added = PutsAllBut-nothing _ _; kept = refl; never_falls = omega arith }
 
 pub loop-rest-preserved : goal.loop-rest-preserved
 loop-rest-preserved g c =
