@@ -10,8 +10,8 @@ use Rattle.cell_net.specs.declared.parts.InstanceParts.{InstanceParts}
 abbrev pub class_of : List ℕ → CellId → ℕ
 class_of classes cell = slice_index classes cell.0
 
--- one class for each cell, no more classes than cells, and two cells have the same exactly where they
--- are linked
+-- one class for each cell, each a number below the count of cells, and two cells have the same exactly
+-- where they are linked
 pub record AreClasses (p : InstanceParts) (borders : List CandidateId) (classes : List ℕ) : Type 0 where
   pub for_each_cell : length classes ≡ length p.cells
   pub in_range : All (λ k. k < length p.cells) classes

@@ -1,8 +1,11 @@
 -- Lists read place by place.
-use Rattle.std.proofs.Common.{◌≡◌, ◌+◌, ℕ, zero, suc, List, [], ◌∷◌, length, Some, slice_get, slice_index_or, refl, subst, ap, below_more}
-use Rattle.std.proofs.lemmas.Option.{get_or_from_slice_get, same_Some, none-some}
+use Rattle.std.proofs.Common.{◌≡◌, ◌+◌, ℕ, zero, suc, List, [], ◌∷◌, length, Contains, Some, slice_get, slice_index_or, refl, subst, ap, ◌∙◌, below_more}
+use Rattle.std.proofs.lemmas.Option.{slice_get-get_or, get_or_from_slice_get, same_Some, none-some}
 use Rattle.std.specs.List.{AllZip}
 use Rattle.vss_lists.specs.Breaks.{HoldsBelow}
+
+pub get_contained : {X : Type 0} (xs : List X) (x : X) (there : Contains xs x) → slice_get xs there.0 ≡ Some x
+get_contained xs x there = slice_get-get_or xs there.0 x there.1 ∙ ap Some there.2
 
 -- a rule that holds of the items before a place and of the one there
 pub holds_more : {X : Type 0} (P : ℕ → X → Type 0) (xs : List X) (n : ℕ) (d : X) → HoldsBelow P xs n → P n (slice_index_or xs n d) → HoldsBelow P xs (n + 1)

@@ -6,17 +6,15 @@ use Rattle.std.proofs.lemmas.Option.{slice_get-get_or, get_or_from_slice_get, sl
 use Rattle.std.proofs.lemmas.Bool.Decides.{eqb_tells, Decides-eqb}
 use Rattle.vss_lists.specs.Breaks.{HoldsBelow, HoldsOfEach}
 use Rattle.cell_net.specs.Space.{IsCell}
-use Rattle.cell_net.specs.declared.ids.CandidateId.{CandidateId}
 use Rattle.cell_net.specs.declared.cells.DirCell.{DirCell}
 use Rattle.cell_net.specs.declared.plans.Sweep.{Sweep}
-use Rattle.cell_net.specs.declared.plans.TrainRun.{TrainRun}
-use Rattle.cell_net.specs.declared.parts.InstanceParts.{InstanceParts}
 use Rattle.layout_rules.specs.Classes.{class_of}
-use Rattle.plan_checker.specs.Clashes.{HasSweep, AreApartAt}
-use Rattle.plan_checker.specs.ClashSearch.{AreAllApartAt, IsClassMarked, IsFreeFor, IsMarked, IsTraffic, IsTrainMarked, KeepsMarks}
+use Rattle.plan_checker.specs.Clashes.{AreApartAt}
+use Rattle.plan_checker.specs.ClashSearch.{AreAllApart, AreApart, IsClassMarked, IsFreeFor, IsMarked, IsSound, IsTrainMarked, KeepsMarks, Touches}
 use Rattle.plan_checker.specs.declared.marks.Mark.{Mark}
-use Rattle.plan_checker.proofs.ListSteps.{holds_more}
-use Rattle.plan_checker.proofs.PairLemmas.{get_contained, same_sweep}
+use Rattle.plan_checker.specs.declared.pairs.Traffic.{Traffic}
+use Rattle.plan_checker.proofs.ListSteps.{get_contained, holds_more}
+use Rattle.plan_checker.proofs.PairLemmas.{same_sweep}
 
 get_set : {X : Type 0} (xs : List X) (i : ℕ) (x : X) → i < length xs → slice_get (slice_set xs i x) i ≡ Some x
 get_set xs i x within =
@@ -60,10 +58,11 @@ keeps_where_free marks class step train d within free = record {
 }
 
 -- a train is marked if its sweep is
-pub train_marked : (classes : List ℕ) (marks : List (Option Mark)) (runs : List TrainRun) (step train : ℕ) (w : Sweep) → HasSweep runs train step w →
-    HoldsOfEach (IsClassMarked classes marks step train) w.cells → IsTrainMarked classes marks runs step train
-train_marked classes marks runs step train w has marked = record {
-  each = λ v also. subst (λ (s : Sweep). HoldsOfEach (IsClassMarked classes marks step train) s.cells) (same_sweep runs train step w v has also) marked;
+pub train_marked : (t : Traffic) (marks : List (Option Mark)) (step train : ℕ) (w : Sweep) → Touches t train step w →
+    HoldsOfEach (IsClassMarked t.classes.now marks step train) w.cells → IsTrainMarked t marks step train
+train_marked t marks step train w has marked = record {
+  each = λ v also.
+      subst (λ (s : Sweep). HoldsOfEach (IsClassMarked t.classes.now marks step train) s.cells) (same_sweep t.runs.now train step w v has also) marked;
 }
 
 -- one class more is marked
@@ -74,33 +73,36 @@ marked_more classes old new step train cells n d keeps before here =
     holds_more (IsClassMarked classes new step train) cells n d
     (λ k item low is. keeps.kept train (class_of classes item.cell) (before k item low is)) here
 
--- the classes of one train more are marked
-pub trains_more : (classes : List ℕ) (old new : List (Option Mark)) (runs : List TrainRun) (step n : ℕ) → KeepsMarks step old new →
-    ((x : ℕ) → x < n → IsTrainMarked classes old runs step x) → IsTrainMarked classes new runs step n →
-    (x : ℕ) → x < n + 1 → IsTrainMarked classes new runs step x
-trains_more classes old new runs step n keeps before here =
-    below_more (IsTrainMarked classes new runs step) n
-    (λ x low. record { each = λ w has. record { at_each = λ k item is. keeps.kept x (class_of classes item.cell) (((before x low).each w has).at_each k item is) } })
+-- one train more is marked
+pub trains_more : (t : Traffic) (old new : List (Option Mark)) (step n : ℕ) → KeepsMarks step old new →
+    ((x : ℕ) → x < n → IsTrainMarked t old step x) → IsTrainMarked t new step n → (x : ℕ) → x < n + 1 → IsTrainMarked t new step x
+trains_more t old new step n keeps before here =
+    below_more (IsTrainMarked t new step) n
+    (λ x low. record {
+      each = λ w has. record {
+        at_each = λ k item is. keeps.kept x (class_of t.classes.now item.cell) (((before x low).each w has).at_each k item is);
+      };
+    })
     here
 
 -- where no two trains have marked one class, all are apart
-pub apart_by_marks : (p : InstanceParts) (borders : List CandidateId) (classes : List ℕ) (runs : List TrainRun) (marks : List (Option Mark)) (step n : ℕ) →
-    IsTraffic p borders classes runs → length runs ≤ n → ((x : ℕ) → x < n → IsTrainMarked classes marks runs step x) → AreAllApartAt p borders runs step
+pub apart_by_marks : (t : Traffic) (marks : List (Option Mark)) (step n : ℕ) → IsSound t → length t.runs.now ≤ n →
+    ((x : ℕ) → x < n → IsTrainMarked t marks step x) → AreAllApart t step
 unfolding AreApartAt
-apart_by_marks p borders classes runs marks step n traffic all marked = record { apart = apart }
+apart_by_marks t marks step n sound all marked = record { apart = apart }
   where
-    mark_of : (x : ℕ) (w : Sweep) (c : DirCell) → HasSweep runs x step w → Contains w.cells c → IsMarked marks step x (class_of classes c.cell)
+    mark_of : (x : ℕ) (w : Sweep) (c : DirCell) → Touches t x step w → Contains w.cells c → IsMarked marks step x (class_of t.classes.now c.cell)
     mark_of x w c has there =
-        let within : x < length runs = slice_get_within runs x has.run has.is_run in
+        let within : x < length t.runs.now = slice_get_within t.runs.now x has.run has.is_run in
         ((marked x (omega arith)).each w has).at_each there.0 c (get_contained w.cells c there)
 
-    cell_of : (x : ℕ) (w : Sweep) (c : DirCell) → HasSweep runs x step w → Contains w.cells c → IsCell p c.cell
-    cell_of x w c has there = All-contains (λ (d : DirCell). IsCell p d.cell) w.cells c (traffic.on_cells x step w has) there
+    cell_of : (x : ℕ) (w : Sweep) (c : DirCell) → Touches t x step w → Contains w.cells c → IsCell t.inst.now c.cell
+    cell_of x w c has there = All-contains (λ (d : DirCell). IsCell t.inst.now d.cell) w.cells c (sound.on_cells x step w has) there
 
-    apart : (x y : ℕ) → x < y → AreApartAt p borders runs step x y
+    apart : (x y : ℕ) → x < y → AreApart t step x y
     apart x y later w v one other c d in_w in_v linked =
-        let same : class_of classes c.cell ≡ class_of classes d.cell =
-        (traffic.alike.same_where_linked c.cell d.cell (cell_of x w c one in_w) (cell_of y v d other in_v)).1 linked in
+        let same : class_of t.classes.now c.cell ≡ class_of t.classes.now d.cell =
+        (sound.alike.same_where_linked c.cell d.cell (cell_of x w c one in_w) (cell_of y v d other in_v)).1 linked in
         let of_x : Mark = record { step = step; train = x } in
         let of_y : Mark = record { step = step; train = y } in
         let both : Some (Some of_x) ≡ Some (Some of_y) = sym (mark_of x w c one in_w) ∙ (ap (slice_get marks) same ∙ mark_of y v d other in_v) in

@@ -3,7 +3,7 @@ ghost use Rattle.std.specs.List.{AllZip};
 ghost use Rattle.cell_net.specs.Runs.{IsRun};
 ghost use Rattle.layout_rules.specs.Classes.{AreClasses};
 ghost use Rattle.plan_checker.specs.Clashes.{AreApartAt, IsFirstClash};
-ghost use Rattle.plan_checker.specs.ClashSearch.{AreAllApartAt, IsFirstClashAt, IsTraffic};
+ghost use Rattle.plan_checker.specs.ClashSearch.{AreAllApart, AreApart, IsFirstClashAt, IsSound};
 
 use crate::marks::{Mark, are_clearly_apart, no_marks};
 use crate::pairs::{Traffic, first_clash_at};
@@ -24,7 +24,7 @@ pub(crate) struct Clash {
 
 /// The first clash of two trains: at the first step, there of the first pair of trains, by the first
 /// linked cells of their sweeps. Takes memory linear in the cells of the instance, and where no two
-/// trains clash, time linear in the cells of all sweeps.
+/// trains clash, time linear in the cells of all sweeps and in the trains at each step.
 pub(crate) fn first_clash(
     alloc: Global,
     inst: &Instance,
@@ -50,10 +50,10 @@ pub(crate) fn first_clash(
 
 /// The first clash, with a mark for each cell.
 fn first_clash_in(traffic: &Traffic, marks: &mut [Option<Mark>]) -> Option<Clash>
-    requires traffic { IsTraffic traffic.now.inst.now traffic.now.layout.now traffic.now.classes.now traffic.now.runs.now }
+    requires sound { IsSound traffic.now }
     requires marks { length marks.old ≡ length traffic.now.inst.now.cells }
     ensures { MatchOption result
-        ((step x y : ℕ) → x < y → AreApartAt traffic.now.inst.now traffic.now.layout.now traffic.now.runs.now step x y)
+        ((step x y : ℕ) → x < y → AreApart traffic.now step x y)
         (λ k. IsFirstClash traffic.now.inst.now traffic.now.layout.now traffic.now.runs.now k.a.0 k.b.0 k.step k.e k.f) }
 {
     for step in 0..traffic.inst.steps() {
@@ -68,11 +68,9 @@ fn first_clash_in(traffic: &Traffic, marks: &mut [Option<Mark>]) -> Option<Clash
 /// The clash of the first pair of trains at the step. Compares pairs only where the marks don't show
 /// that there is none.
 fn clash_at(traffic: &Traffic, step: u32, marks: &mut [Option<Mark>]) -> Option<Clash>
-    requires traffic { IsTraffic traffic.now.inst.now traffic.now.layout.now traffic.now.classes.now traffic.now.runs.now }
+    requires sound { IsSound traffic.now }
     requires marks { length marks.old ≡ length traffic.now.inst.now.cells }
-    ensures { MatchOption result
-        (AreAllApartAt traffic.now.inst.now traffic.now.layout.now traffic.now.runs.now step)
-        (IsFirstClashAt traffic.now.inst.now traffic.now.layout.now traffic.now.runs.now step) }
+    ensures { MatchOption result (AreAllApart traffic.now step) (IsFirstClashAt traffic.now step) }
 {
     if are_clearly_apart(traffic, step, marks) {
         return None;

@@ -1,7 +1,7 @@
 ghost use Rattle.std.specs.Prelude.{◌≡◌, ◌<◌, ◌↔◌, All, IfOk, IsTrue, length};
 ghost use Rattle.vss_lists.specs.Breaks.{HoldsOfEach};
 ghost use Rattle.layout_rules.specs.Classes.{class_of};
-ghost use Rattle.plan_checker.specs.ClashSearch.{AreAllApartAt, IsClassMarked, IsFreeFor, IsMarked, IsTraffic, IsTrainMarked, KeepsMarks};
+ghost use Rattle.plan_checker.specs.ClashSearch.{AreAllApart, IsClassMarked, IsFreeFor, IsMarked, IsSound, IsTrainMarked, KeepsMarks};
 
 use crate::pairs::{Traffic, sweep_at};
 use cell_net::DirCell;
@@ -25,9 +25,9 @@ pub(crate) fn no_marks(alloc: Global, count: usize) -> Result<Vec<Option<Mark>>,
 /// Whether no two trains touch one class at the step, which shows that all are apart; linear in the
 /// cells of the sweeps at the step.
 pub(crate) fn are_clearly_apart(traffic: &Traffic, step: u32, marks: &mut [Option<Mark>]) -> bool
-    requires traffic { IsTraffic traffic.now.inst.now traffic.now.layout.now traffic.now.classes.now traffic.now.runs.now }
+    requires sound { IsSound traffic.now }
     requires marks { length marks.old ≡ length traffic.now.inst.now.cells }
-    ensures { IsTrue result → AreAllApartAt traffic.now.inst.now traffic.now.layout.now traffic.now.runs.now step }
+    ensures { IsTrue result → AreAllApart traffic.now step }
 {
     for train in 0..traffic.inst.train_count() {
         if !mark_train(traffic, step, train, marks) {
@@ -39,10 +39,10 @@ pub(crate) fn are_clearly_apart(traffic: &Traffic, step: u32, marks: &mut [Optio
 
 /// Marks the classes of the cells that the train touches at the step, as `mark_sweep` does.
 fn mark_train(traffic: &Traffic, step: u32, train: u32, marks: &mut [Option<Mark>]) -> bool
-    requires traffic { IsTraffic traffic.now.inst.now traffic.now.layout.now traffic.now.classes.now traffic.now.runs.now }
+    requires sound { IsSound traffic.now }
     requires train { train < length traffic.now.runs.now }
     requires marks { length marks.old ≡ length traffic.now.inst.now.cells }
-    ensures marked { IsTrue result → IsTrainMarked traffic.now.classes.now marks.new traffic.now.runs.now step train }
+    ensures marked { IsTrue result → IsTrainMarked traffic.now marks.new step train }
     ensures kept { KeepsMarks step marks.old marks.new }
 {
     match sweep_at(&traffic.runs[train as usize], step) {

@@ -1,13 +1,11 @@
 ghost use Rattle.std.specs.Prelude.{◌≡◌, ◌<◌, ◌↔◌, IsTrue, MatchOption, Some, length, slice_get};
 ghost use Rattle.vss_lists.specs.Breaks.{HoldsOfEach};
 ghost use Rattle.cell_net.specs.Space.{IsCell};
-ghost use Rattle.cell_net.specs.Borders.{Linked};
 ghost use Rattle.cell_net.specs.Plans.{AreSeparated};
 ghost use Rattle.cell_net.specs.Runs.{IsSweepAt};
 ghost use Rattle.cell_net.specs.declared.plans.Sweep.{Sweep};
-ghost use Rattle.layout_rules.specs.Classes.{AreClasses};
-ghost use Rattle.plan_checker.specs.Clashes.{AreApartAt, AreFirstLinked};
-ghost use Rattle.plan_checker.specs.ClashSearch.{AreAllApartAt, AreCells, IsApartFromLater, IsClash, IsFirstClashAt, IsFirstClashOf, IsFirstLinkedTo, IsSeparated, IsTraffic};
+ghost use Rattle.plan_checker.specs.Clashes.{AreFirstLinked};
+ghost use Rattle.plan_checker.specs.ClashSearch.{AreAllApart, AreApart, AreCells, AreLinked, IsApartFromLater, IsClash, IsFirstClashAt, IsFirstClashOf, IsFirstLinkedTo, IsSeparated, IsSound};
 
 use crate::clashes::Clash;
 use cell_net::{CellId, DirCell, Instance, Layout, Sweep, TrainId, TrainRun};
@@ -25,10 +23,8 @@ pub(crate) struct Traffic<'a> {
 
 /// The clash of the first pair of trains at the step.
 pub(crate) fn first_clash_at(traffic: &Traffic, step: u32) -> Option<Clash>
-    requires { IsTraffic traffic.now.inst.now traffic.now.layout.now traffic.now.classes.now traffic.now.runs.now }
-    ensures { MatchOption result
-        (AreAllApartAt traffic.now.inst.now traffic.now.layout.now traffic.now.runs.now step)
-        (IsFirstClashAt traffic.now.inst.now traffic.now.layout.now traffic.now.runs.now step) }
+    requires { IsSound traffic.now }
+    ensures { MatchOption result (AreAllApart traffic.now step) (IsFirstClashAt traffic.now step) }
 {
     for a in 0..traffic.inst.train_count() {
         match first_clash_of(traffic, step, a) {
@@ -41,11 +37,9 @@ pub(crate) fn first_clash_at(traffic: &Traffic, step: u32) -> Option<Clash>
 
 /// The clash of a train at the step with the first later one.
 fn first_clash_of(traffic: &Traffic, step: u32, a: u32) -> Option<Clash>
-    requires traffic { IsTraffic traffic.now.inst.now traffic.now.layout.now traffic.now.classes.now traffic.now.runs.now }
+    requires sound { IsSound traffic.now }
     requires train { a < length traffic.now.runs.now }
-    ensures { MatchOption result
-        (IsApartFromLater traffic.now.inst.now traffic.now.layout.now traffic.now.runs.now step a)
-        (IsFirstClashOf traffic.now.inst.now traffic.now.layout.now traffic.now.runs.now step a) }
+    ensures { MatchOption result (IsApartFromLater traffic.now step a) (IsFirstClashOf traffic.now step a) }
 {
     let trains = traffic.inst.train_count();
     for b in a + 1..trains {
@@ -67,12 +61,10 @@ fn first_clash_of(traffic: &Traffic, step: u32, a: u32) -> Option<Clash>
 
 /// The first linked cells of two trains at the step.
 fn first_linked_at(traffic: &Traffic, step: u32, a: u32, b: u32) -> Option<(CellId, CellId)>
-    requires traffic { IsTraffic traffic.now.inst.now traffic.now.layout.now traffic.now.classes.now traffic.now.runs.now }
+    requires sound { IsSound traffic.now }
     requires one { a < length traffic.now.runs.now }
     requires other { b < length traffic.now.runs.now }
-    ensures { MatchOption result
-        (AreApartAt traffic.now.inst.now traffic.now.layout.now traffic.now.runs.now step a b)
-        (λ pair. IsClash traffic.now.inst.now traffic.now.layout.now traffic.now.runs.now a b step pair.0 pair.1) }
+    ensures { MatchOption result (AreApart traffic.now step a b) (λ pair. IsClash traffic.now step a b pair.0 pair.1) }
 {
     let one = sweep_at(&traffic.runs[a as usize], step)?;
     let other = sweep_at(&traffic.runs[b as usize], step)?;
@@ -89,9 +81,9 @@ pub(crate) fn sweep_at(run: &TrainRun, step: u32) -> Option<&Sweep>
 
 /// The first linked cells, in the order of the one list, then of the other.
 fn first_linked(traffic: &Traffic, one: &[DirCell], other: &[DirCell]) -> Option<(CellId, CellId)>
-    requires classes { AreClasses traffic.now.inst.now traffic.now.layout.now traffic.now.classes.now }
-    requires one { AreCells traffic.now.inst.now one.now }
-    requires other { AreCells traffic.now.inst.now other.now }
+    requires sound { IsSound traffic.now }
+    requires one { AreCells traffic.now one.now }
+    requires other { AreCells traffic.now other.now }
     ensures { MatchOption result
         (AreSeparated traffic.now.inst.now traffic.now.layout.now one.now other.now)
         (λ pair. AreFirstLinked traffic.now.inst.now traffic.now.layout.now one.now other.now pair.0 pair.1) }
@@ -107,12 +99,10 @@ fn first_linked(traffic: &Traffic, one: &[DirCell], other: &[DirCell]) -> Option
 
 /// The first of the cells that is linked with this one.
 fn first_linked_to(traffic: &Traffic, cell: CellId, cells: &[DirCell]) -> Option<CellId>
-    requires classes { AreClasses traffic.now.inst.now traffic.now.layout.now traffic.now.classes.now }
+    requires sound { IsSound traffic.now }
     requires cell { IsCell traffic.now.inst.now cell }
-    requires cells { AreCells traffic.now.inst.now cells.now }
-    ensures { MatchOption result
-        (HoldsOfEach (IsSeparated traffic.now.inst.now traffic.now.layout.now cell) cells.now)
-        (IsFirstLinkedTo traffic.now.inst.now traffic.now.layout.now cell cells.now) }
+    requires cells { AreCells traffic.now cells.now }
+    ensures { MatchOption result (HoldsOfEach (IsSeparated traffic.now cell) cells.now) (IsFirstLinkedTo traffic.now cell cells.now) }
 {
     for directed in cells {
         if are_linked(traffic, cell, directed.cell) {
@@ -123,10 +113,10 @@ fn first_linked_to(traffic: &Traffic, cell: CellId, cells: &[DirCell]) -> Option
 }
 
 fn are_linked(traffic: &Traffic, one: CellId, other: CellId) -> bool
-    requires classes { AreClasses traffic.now.inst.now traffic.now.layout.now traffic.now.classes.now }
+    requires sound { IsSound traffic.now }
     requires one { IsCell traffic.now.inst.now one }
     requires other { IsCell traffic.now.inst.now other }
-    ensures { IsTrue result ↔ Linked traffic.now.inst.now traffic.now.layout.now one other }
+    ensures { IsTrue result ↔ AreLinked traffic.now one other }
 {
     traffic.classes.linked(one, other)
 }
