@@ -1,2 +1,3 @@
 mod PassageLemmas
 mod RuleLemmas
+mod EndLemmas

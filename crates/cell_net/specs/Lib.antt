@@ -6,3 +6,4 @@ pub mod Labelled
 pub mod Rules
 pub mod Refusals
 pub mod Passages
+pub mod Ends

@@ -1,7 +1,7 @@
 -- Which rule a refusal says is broken: the first in the order, at the lowest place.
 use Rattle.std.specs.Prelude.{ℕ, List, ⊤}
 use Rattle.vss_lists.specs.Breaks.{HoldsOfEach, BreaksFirstAt}
-use Rattle.cell_net.specs.Rules.{HasGoodSteps, IsGoodCell, IsGoodJoin, IsGoodKept, IsGoodStation, IsGoodTrain}
+use Rattle.cell_net.specs.Rules.{HasGoodSteps, IsGoodCell, IsGoodJoin, IsGoodCandidate, IsGoodKept, IsGoodStation, IsGoodTrain}
 use Rattle.cell_net.specs.Borders.{RisesAt, IsCandidate}
 use Rattle.cell_net.specs.declared.ids.CandidateId.{CandidateId}
 use Rattle.cell_net.specs.declared.layout.LayoutRefusal.{LayoutRefusal}
@@ -18,17 +18,20 @@ IsRefusal p (BadCell i) = HasGoodSteps p × BreaksFirstAt (IsGoodCell p) p.cells
 IsRefusal p (BadJoin i) =
     HasGoodSteps p × HoldsOfEach (IsGoodCell p) p.cells × BreaksFirstAt (IsGoodJoin p) p.joins i
 IsRefusal p (BadSection i) = ⊤
-IsRefusal p (BadCandidate i) = ⊤
+IsRefusal p (BadCandidate i) =
+    HasGoodSteps p × HoldsOfEach (IsGoodCell p) p.cells × HoldsOfEach (IsGoodJoin p) p.joins ×
+    BreaksFirstAt (IsGoodCandidate p) p.candidates i
 IsRefusal p (BadKept i) =
     HasGoodSteps p × HoldsOfEach (IsGoodCell p) p.cells × HoldsOfEach (IsGoodJoin p) p.joins ×
-    BreaksFirstAt (IsGoodKept p) p.kept i
+    HoldsOfEach (IsGoodCandidate p) p.candidates × BreaksFirstAt (IsGoodKept p) p.kept i
 IsRefusal p (BadStation i) =
     HasGoodSteps p × HoldsOfEach (IsGoodCell p) p.cells × HoldsOfEach (IsGoodJoin p) p.joins ×
-    HoldsOfEach (IsGoodKept p) p.kept × BreaksFirstAt (IsGoodStation p) p.stations i
+    HoldsOfEach (IsGoodCandidate p) p.candidates × HoldsOfEach (IsGoodKept p) p.kept ×
+    BreaksFirstAt (IsGoodStation p) p.stations i
 IsRefusal p (BadTrain i) =
     HasGoodSteps p × HoldsOfEach (IsGoodCell p) p.cells × HoldsOfEach (IsGoodJoin p) p.joins ×
-    HoldsOfEach (IsGoodKept p) p.kept × HoldsOfEach (IsGoodStation p) p.stations ×
-    BreaksFirstAt (IsGoodTrain p) p.trains i
+    HoldsOfEach (IsGoodCandidate p) p.candidates × HoldsOfEach (IsGoodKept p) p.kept ×
+    HoldsOfEach (IsGoodStation p) p.stations × BreaksFirstAt (IsGoodTrain p) p.trains i
 IsRefusal p Memory = ⊤
 
 -- the borders don't rise, first at that place; or they do, and one is no candidate, first there

@@ -5,6 +5,7 @@
 
 mod build;
 mod cells;
+mod ends;
 mod ids;
 mod instance;
 mod labels;
