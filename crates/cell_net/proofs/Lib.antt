@@ -1,3 +1,5 @@
 mod PassageLemmas
 mod RuleLemmas
 mod EndLemmas
+pub mod SegmentLemmas
+mod SectionLemmas

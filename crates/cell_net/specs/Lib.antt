@@ -7,3 +7,5 @@ pub mod Rules
 pub mod Refusals
 pub mod Passages
 pub mod Ends
+pub mod Sections
+pub mod Segments

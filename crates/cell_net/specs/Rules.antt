@@ -1,8 +1,9 @@
--- The rules that the parts of an instance keep, and which of them a refusal says is broken.
+-- The rules that the parts of an instance keep.
 use Rattle.std.specs.Prelude.{◌≡◌, ◌≢◌, ◌<◌, ◌≤◌, ◌+◌, ◌^◌, ◌⊎◌, ℕ, List, length, All, Some, slice_get}
 use Rattle.vss_lists.specs.Breaks.{HoldsOfEach, BreaksFirstAt}
 use Rattle.cell_net.specs.Space.{IsCell}
 use Rattle.cell_net.specs.Borders.{IsAboveLast, IsCellAt, IsInSection, RisesAt}
+use Rattle.cell_net.specs.Sections.{HasGoodSections}
 use Rattle.cell_net.specs.declared.ids.CandidateId.{CandidateId}
 use Rattle.cell_net.specs.declared.ids.CellId.{CellId}
 use Rattle.cell_net.specs.declared.ids.NodeId.{NodeId}
@@ -105,6 +106,7 @@ pub record IsInstance (p : InstanceParts) : Type 0 where
   pub steps : HasGoodSteps p
   pub cells : HoldsOfEach (IsGoodCell p) p.cells
   pub joins : HoldsOfEach (IsGoodJoin p) p.joins
+  pub sections : HasGoodSections p
   pub candidates : HoldsOfEach (IsGoodCandidate p) p.candidates
   pub kept : HoldsOfEach (IsGoodKept p) p.kept
   pub stations : HoldsOfEach (IsGoodStation p) p.stations

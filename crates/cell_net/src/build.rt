@@ -4,8 +4,8 @@ ghost use Rattle.cell_net.specs.Refusals.{IsRefusal};
 
 use crate::parts::InstanceParts;
 use crate::rules::{
-    first_bad_candidate, first_bad_cell, first_bad_join, first_bad_kept, first_bad_station,
-    first_bad_train,
+    first_bad_candidate, first_bad_cell, first_bad_join, first_bad_kept, first_bad_section,
+    first_bad_station, first_bad_train,
 };
 use std::alloc::Global;
 
@@ -62,6 +62,11 @@ pub(crate) fn test_rules(alloc: Global, parts: &InstanceParts) -> Result<(), Bui
     match first_bad_join(parts) {
         None => {}
         Some(place) => return Err(BuildRefusal::BadJoin(place)),
+    }
+    match first_bad_section(alloc, parts) {
+        Ok(None) => {}
+        Ok(Some(place)) => return Err(BuildRefusal::BadSection(place)),
+        Err(_) => return Err(BuildRefusal::Memory),
     }
     match first_bad_candidate(alloc, parts) {
         Ok(None) => {}

@@ -15,6 +15,7 @@ mod passages;
 mod plans;
 mod rules;
 mod scene;
+mod segments;
 mod trains;
 
 pub use build::BuildRefusal;
@@ -26,4 +27,5 @@ pub use layout::{Layout, LayoutRefusal};
 pub use parts::InstanceParts;
 pub use plans::{Plan, Sweep, TrainRun};
 pub use scene::Scene;
+pub use segments::segments_of;
 pub use trains::{StopSpec, TrainSpec};
