@@ -1,5 +1,7 @@
 mod PassageLemmas
 mod RuleLemmas
 mod EndLemmas
-pub mod SegmentLemmas
 mod SectionLemmas
+pub mod SegmentLemmas
+pub mod LinkLaws
+mod RefusalLaws

@@ -9,3 +9,4 @@ pub mod Passages
 pub mod Ends
 pub mod Sections
 pub mod Segments
+pub mod Laws
