@@ -1,2 +1,8 @@
 mod PassageLemmas
 mod RuleLemmas
+mod EndLemmas
+mod LayoutLemmas
+mod SectionLemmas
+pub mod SegmentLemmas
+pub mod LinkLaws
+mod RefusalLaws

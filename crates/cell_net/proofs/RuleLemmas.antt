@@ -1,10 +1,13 @@
 -- On the rules of an instance.
 use Rattle.std.proofs.Common.{◌≡◌, ◌<◌, ◌≤◌, ◌⊎◌, inl, inr, ℕ, List, length, All, Some, slice_get, slice_index_or, sym, ◌∙◌, ap, arith}
-use Rattle.std.proofs.lemmas.Option.{slice_get_cases, slice_get-get_or, slice_get_within}
+use Rattle.std.proofs.lemmas.Option.{slice_get_cases, slice_get-get_or, slice_get_within, same_Some}
 use Rattle.vss_lists.specs.Breaks.{HoldsOfEach}
-use Rattle.cell_net.specs.Rules.{IsNodeOf, node_at, IsGoodCell, IsGoodTrain, IsGoodJoin}
+use Rattle.cell_net.specs.Rules.{IsNodeOf, node_at, IsGoodCandidate, IsGoodCell, IsGoodTrain, IsGoodJoin}
 use Rattle.cell_net.specs.Passages.{HasPlace, HasPlaces}
+use Rattle.cell_net.specs.Borders.{IsInSection}
+use Rattle.cell_net.specs.declared.ids.CellId.{CellId}
 use Rattle.cell_net.specs.declared.ids.NodeId.{NodeId}
+use Rattle.cell_net.specs.declared.cells.CellSpec.{CellSpec}
 use Rattle.cell_net.specs.declared.cells.CellEnd.{CellEnd}
 use Rattle.cell_net.specs.declared.cells.JoinSpec.{JoinSpec}
 use Rattle.cell_net.specs.declared.parts.InstanceParts.{InstanceParts}
@@ -25,6 +28,9 @@ few_items P n xs few each =
 pub few_cells : (p : InstanceParts) → HoldsOfEach (IsGoodCell p) p.cells → length p.cells ≤ 1000
 few_cells p = few_items (IsGoodCell p) 1000 p.cells (λ _ _ good. good.few)
 
+pub few_candidates : (p : InstanceParts) → HoldsOfEach (IsGoodCandidate p) p.candidates → length p.candidates ≤ 512
+few_candidates p = few_items (IsGoodCandidate p) 512 p.candidates (λ _ _ good. good.few)
+
 pub few_trains : (p : InstanceParts) → HoldsOfEach (IsGoodTrain p) p.trains → length p.trains ≤ 32
 few_trains p = few_items (IsGoodTrain p) 32 p.trains (λ _ _ good. good.few)
 
@@ -38,3 +44,9 @@ have_places p few each k d within =
     let j : JoinSpec = slice_index_or p.joins k d in
     let good : IsGoodJoin p k j = each.at_each k j (slice_get-get_or p.joins k d within) in
     (has_place p j.one good.node few good.at_one, has_place p j.other good.node few good.at_other)
+
+-- a cell is of one section
+pub one_section : (p : InstanceParts) (c : CellId) (s t : ℕ) → IsInSection p s c → IsInSection p t c → s ≡ t
+one_section p c s t first second =
+    let same : first.cell ≡ second.cell = same_Some first.cell second.cell (sym first.is ∙ second.is) in
+    sym first.of_section ∙ (ap (λ (x : CellSpec). x.section.0) same ∙ second.of_section)

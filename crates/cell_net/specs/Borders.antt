@@ -8,10 +8,14 @@ use Rattle.cell_net.specs.declared.ids.CandidateId.{CandidateId}
 use Rattle.cell_net.specs.declared.cells.CellSpec.{CellSpec}
 use Rattle.cell_net.specs.declared.parts.InstanceParts.{InstanceParts}
 
--- what stands before the place, if anything, is below this candidate
+-- what stands before the place, if anything, has a number below that of this item
+abbrev pub IsAboveLast : {X : Type 0} → (X → ℕ) → List X → ℕ → X → Type 0
+IsAboveLast {X} number items place this =
+    (before : ℕ) (b : X) → before + 1 ≡ place → slice_get items before ≡ Some b → number b < number this
+
+-- the candidates rise at the place
 abbrev pub RisesAt : List CandidateId → ℕ → CandidateId → Type 0
-RisesAt candidates place this =
-    (before : ℕ) (b : CandidateId) → before + 1 ≡ place → slice_get candidates before ≡ Some b → b.0 < this.0
+RisesAt = IsAboveLast (λ c. c.0)
 
 -- the instance has the candidate
 abbrev pub IsCandidate : InstanceParts → ℕ → CandidateId → Type 0
@@ -34,6 +38,18 @@ IsBorder p borders n = Any (λ b. slice_get p.candidates b.0 ≡ Some n) borders
 -- the node is at an end of the cell
 abbrev pub IsAtEnd : CellSpec → NodeId → Type 0
 IsAtEnd cell n = (cell.low ≡ n) ⊎ (cell.high ≡ n)
+
+-- the cell is one of the instance's, and the node is at an end of it
+pub record IsCellAt (p : InstanceParts) (c : CellId) (n : NodeId) : Type 0 where
+  pub cell : CellSpec
+  pub is : slice_get p.cells c.0 ≡ Some cell
+  pub at_end : IsAtEnd cell n
+
+-- the cell is one of the section of that number
+pub record IsInSection (p : InstanceParts) (section : ℕ) (c : CellId) : Type 0 where
+  pub cell : CellSpec
+  pub is : slice_get p.cells c.0 ≡ Some cell
+  pub of_section : cell.section.0 ≡ section
 
 -- two cells of one section share a node that isn't a border
 pub record Meet (p : InstanceParts) (borders : List CandidateId) (e f : CellId) : Type 0 where

@@ -6,3 +6,7 @@ pub mod Labelled
 pub mod Rules
 pub mod Refusals
 pub mod Passages
+pub mod Ends
+pub mod Sections
+pub mod Segments
+pub mod Laws

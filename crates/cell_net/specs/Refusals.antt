@@ -1,7 +1,8 @@
 -- Which rule a refusal says is broken: the first in the order, at the lowest place.
 use Rattle.std.specs.Prelude.{ℕ, List, ⊤}
 use Rattle.vss_lists.specs.Breaks.{HoldsOfEach, BreaksFirstAt}
-use Rattle.cell_net.specs.Rules.{HasGoodSteps, IsGoodCell, IsGoodJoin, IsGoodKept, IsGoodStation, IsGoodTrain}
+use Rattle.cell_net.specs.Rules.{HasGoodSteps, IsGoodCell, IsGoodJoin, IsGoodCandidate, IsGoodKept, IsGoodStation, IsGoodTrain}
+use Rattle.cell_net.specs.Sections.{HasGoodSections, IsFirstBadSection}
 use Rattle.cell_net.specs.Borders.{RisesAt, IsCandidate}
 use Rattle.cell_net.specs.declared.ids.CandidateId.{CandidateId}
 use Rattle.cell_net.specs.declared.layout.LayoutRefusal.{LayoutRefusal}
@@ -17,18 +18,22 @@ IsRefusal p BadSteps = ¬ HasGoodSteps p
 IsRefusal p (BadCell i) = HasGoodSteps p × BreaksFirstAt (IsGoodCell p) p.cells i
 IsRefusal p (BadJoin i) =
     HasGoodSteps p × HoldsOfEach (IsGoodCell p) p.cells × BreaksFirstAt (IsGoodJoin p) p.joins i
-IsRefusal p (BadSection i) = ⊤
-IsRefusal p (BadCandidate i) = ⊤
+IsRefusal p (BadSection i) =
+    HasGoodSteps p × HoldsOfEach (IsGoodCell p) p.cells × HoldsOfEach (IsGoodJoin p) p.joins × IsFirstBadSection p i
+IsRefusal p (BadCandidate i) =
+    HasGoodSteps p × HoldsOfEach (IsGoodCell p) p.cells × HoldsOfEach (IsGoodJoin p) p.joins ×
+    HasGoodSections p × BreaksFirstAt (IsGoodCandidate p) p.candidates i
 IsRefusal p (BadKept i) =
     HasGoodSteps p × HoldsOfEach (IsGoodCell p) p.cells × HoldsOfEach (IsGoodJoin p) p.joins ×
-    BreaksFirstAt (IsGoodKept p) p.kept i
+    HasGoodSections p × HoldsOfEach (IsGoodCandidate p) p.candidates × BreaksFirstAt (IsGoodKept p) p.kept i
 IsRefusal p (BadStation i) =
     HasGoodSteps p × HoldsOfEach (IsGoodCell p) p.cells × HoldsOfEach (IsGoodJoin p) p.joins ×
-    HoldsOfEach (IsGoodKept p) p.kept × BreaksFirstAt (IsGoodStation p) p.stations i
+    HasGoodSections p × HoldsOfEach (IsGoodCandidate p) p.candidates × HoldsOfEach (IsGoodKept p) p.kept ×
+    BreaksFirstAt (IsGoodStation p) p.stations i
 IsRefusal p (BadTrain i) =
     HasGoodSteps p × HoldsOfEach (IsGoodCell p) p.cells × HoldsOfEach (IsGoodJoin p) p.joins ×
-    HoldsOfEach (IsGoodKept p) p.kept × HoldsOfEach (IsGoodStation p) p.stations ×
-    BreaksFirstAt (IsGoodTrain p) p.trains i
+    HasGoodSections p × HoldsOfEach (IsGoodCandidate p) p.candidates × HoldsOfEach (IsGoodKept p) p.kept ×
+    HoldsOfEach (IsGoodStation p) p.stations × BreaksFirstAt (IsGoodTrain p) p.trains i
 IsRefusal p Memory = ⊤
 
 -- the borders don't rise, first at that place; or they do, and one is no candidate, first there

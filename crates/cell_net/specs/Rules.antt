@@ -1,8 +1,9 @@
--- The rules that the parts of an instance keep, and which of them a refusal says is broken.
-use Rattle.std.specs.Prelude.{◌≡◌, ◌≢◌, ◌<◌, ◌≤◌, ◌+◌, ◌^◌, ℕ, List, length, All, Some, slice_get}
+-- The rules that the parts of an instance keep.
+use Rattle.std.specs.Prelude.{◌≡◌, ◌≢◌, ◌<◌, ◌≤◌, ◌+◌, ◌^◌, ◌⊎◌, ℕ, List, length, All, Some, slice_get}
 use Rattle.vss_lists.specs.Breaks.{HoldsOfEach, BreaksFirstAt}
 use Rattle.cell_net.specs.Space.{IsCell}
-use Rattle.cell_net.specs.Borders.{RisesAt}
+use Rattle.cell_net.specs.Borders.{IsAboveLast, IsCellAt, IsInSection, RisesAt}
+use Rattle.cell_net.specs.Sections.{HasGoodSections}
 use Rattle.cell_net.specs.declared.ids.CandidateId.{CandidateId}
 use Rattle.cell_net.specs.declared.ids.CellId.{CellId}
 use Rattle.cell_net.specs.declared.ids.NodeId.{NodeId}
@@ -46,6 +47,26 @@ pub record IsGoodJoin (p : InstanceParts) (place : ℕ) (j : JoinSpec) : Type 0 
   pub at_one : IsNodeOf p j.one node
   pub at_other : IsNodeOf p j.other node
 
+-- two different cells of one section have the node at an end, and no third cell has
+pub record JoinsTwoCells (p : InstanceParts) (n : NodeId) : Type 0 where
+  pub one : CellId
+  pub other : CellId
+  pub section : ℕ
+  pub are_two : one ≢ other
+  pub one_at : IsCellAt p one n
+  pub other_at : IsCellAt p other n
+  pub one_in : IsInSection p section one
+  pub other_in : IsInSection p section other
+  pub no_third : (c : CellId) → IsCellAt p c n → (c ≡ one) ⊎ (c ≡ other)
+
+-- one of the first 512 candidates, above the one before it, is a node of the instance that joins two
+-- cells
+pub record IsGoodCandidate (p : InstanceParts) (place : ℕ) (n : NodeId) : Type 0 where
+  pub few : place < 512
+  pub rises : IsAboveLast (λ m. m.0) p.candidates place n
+  pub in_range : n.0 < p.nodes
+  pub joins : JoinsTwoCells p n
+
 -- the kept candidates rise and are candidates
 pub record IsGoodKept (p : InstanceParts) (place : ℕ) (k : CandidateId) : Type 0 where
   pub rises : RisesAt p.kept place k
@@ -85,6 +106,8 @@ pub record IsInstance (p : InstanceParts) : Type 0 where
   pub steps : HasGoodSteps p
   pub cells : HoldsOfEach (IsGoodCell p) p.cells
   pub joins : HoldsOfEach (IsGoodJoin p) p.joins
+  pub sections : HasGoodSections p
+  pub candidates : HoldsOfEach (IsGoodCandidate p) p.candidates
   pub kept : HoldsOfEach (IsGoodKept p) p.kept
   pub stations : HoldsOfEach (IsGoodStation p) p.stations
   pub trains : HoldsOfEach (IsGoodTrain p) p.trains

@@ -4,15 +4,13 @@ ghost use Rattle.cell_net.specs.Refusals.{IsRefusal};
 
 use crate::parts::InstanceParts;
 use crate::rules::{
-    first_bad_cell, first_bad_join, first_bad_kept, first_bad_station, first_bad_train,
+    first_bad_candidate, first_bad_cell, first_bad_join, first_bad_kept, first_bad_section,
+    first_bad_station, first_bad_train,
 };
 use std::alloc::Global;
 
 /// At most so many time steps.
 const STEPS: u32 = 400;
-
-/// At most so many candidates.
-const CANDIDATES: usize = 512;
 
 /// Why the parts are no instance: the first rule in this order that one of them breaks, and the
 /// lowest place at which it is broken.
@@ -47,6 +45,7 @@ pub enum BuildRefusal {
 pub(crate) fn test_rules(alloc: Global, parts: &InstanceParts) -> Result<(), BuildRefusal>
     requires cells { length parts.now.cells < 2 ^ 32 }
     requires joins { length parts.now.joins < 2 ^ 32 }
+    requires candidates { length parts.now.candidates < 2 ^ 32 }
     requires kept { length parts.now.kept < 2 ^ 32 }
     requires stations { length parts.now.stations < 2 ^ 32 }
     requires trains { length parts.now.trains < 2 ^ 32 }
@@ -64,8 +63,15 @@ pub(crate) fn test_rules(alloc: Global, parts: &InstanceParts) -> Result<(), Bui
         None => {}
         Some(place) => return Err(BuildRefusal::BadJoin(place)),
     }
-    if CANDIDATES < parts.candidates.len() {
-        return Err(BuildRefusal::BadCandidate(CANDIDATES as u32));
+    match first_bad_section(alloc, parts) {
+        Ok(None) => {}
+        Ok(Some(place)) => return Err(BuildRefusal::BadSection(place)),
+        Err(_) => return Err(BuildRefusal::Memory),
+    }
+    match first_bad_candidate(alloc, parts) {
+        Ok(None) => {}
+        Ok(Some(place)) => return Err(BuildRefusal::BadCandidate(place)),
+        Err(_) => return Err(BuildRefusal::Memory),
     }
     match first_bad_kept(parts) {
         None => {}

@@ -1,5 +1,7 @@
-ghost use Rattle.std.specs.Prelude.{◌≡◌, ◌<◌, ◌^◌, ◌↔◌, Contains, IfErr, IfOk, IsTrue, length};
-ghost use Rattle.cell_net.specs.Borders.{IsBorderSet};
+ghost use Rattle.std.specs.Prelude.{◌≡◌, ◌<◌, ◌≤◌, ◌^◌, ◌↔◌, Contains, IfErr, IfOk, IsTrue, length};
+ghost use Rattle.std.specs.List.Sorted.{IsPartitionPoint};
+ghost use Rattle.vss_lists.specs.Breaks.{HoldsOfEach};
+ghost use Rattle.cell_net.specs.Borders.{IsBorderSet, RisesAt};
 ghost use Rattle.cell_net.specs.Refusals.{IsLayoutRefusal};
 
 use crate::ids::CandidateId;
@@ -24,11 +26,15 @@ pub struct Layout {
 
 impl Model for Layout {
     ghost use Rattle.std.specs.Prelude.{List};
+    ghost use Rattle.vss_lists.specs.Breaks.{HoldsOfEach};
+    ghost use Rattle.cell_net.specs.Borders.{RisesAt};
     ghost use Rattle.cell_net.specs.declared.ids.CandidateId.{CandidateId};
 
     ghost Value = { List CandidateId };
 
     ghost view = { λ l. l.borders.items };
+
+    ghost invariant = { λ l. HoldsOfEach (RisesAt l.borders.items) l.borders.items };
 }
 
 impl Layout {
@@ -51,12 +57,13 @@ impl Layout {
     }
 
     pub fn borders(&self) -> &[CandidateId]
-        ensures { result.now ≡ self.now }
+        ensures borders { result.now ≡ self.now }
+        ensures rising { HoldsOfEach (RisesAt self.now) self.now }
     {
         self.borders.as_slice()
     }
 
-    /// Whether a border stands at the candidate; linear in the borders.
+    /// Whether a border stands at the candidate; logarithmic in the borders.
     pub fn has(&self, id: CandidateId) -> bool
         ensures { IsTrue result ↔ Contains self.now id }
     {
@@ -65,7 +72,18 @@ impl Layout {
 }
 
 fn contains(borders: &[CandidateId], id: CandidateId) -> bool
+    requires { HoldsOfEach (RisesAt borders.now) borders.now }
     ensures { IsTrue result ↔ Contains borders.now id }
 {
-    borders.contains(&id)
+    let place = count_below(borders, id);
+    place < borders.len() && borders[place].0 == id.0
+}
+
+/// How many of the borders, which rise, are below the candidate.
+fn count_below(borders: &[CandidateId], id: CandidateId) -> usize
+    requires { HoldsOfEach (RisesAt borders.now) borders.now }
+    ensures within { result ≤ length borders.now }
+    ensures split { IsPartitionPoint (λ b. b.0 < id.0) (λ b. id.0 ≤ b.0) borders.now result }
+{
+    borders.partition_point(|border| border.0 < id.0)
 }

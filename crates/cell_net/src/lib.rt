@@ -5,15 +5,18 @@
 
 mod build;
 mod cells;
+mod ends;
 mod ids;
 mod instance;
 mod labels;
+mod laws;
 mod layout;
 mod parts;
 mod passages;
 mod plans;
 mod rules;
 mod scene;
+mod segments;
 mod trains;
 
 pub use build::BuildRefusal;
@@ -21,8 +24,10 @@ pub use cells::{CellEnd, CellSpec, DirCell, End, JoinSpec};
 pub use ids::{CandidateId, CellId, NodeId, SectionId, StationId, TrainId};
 pub use instance::Instance;
 pub use labels::{CellLabel, Labels, PlaceLabel};
+pub use laws::{layout_refusals_are_exclusive, linked_is_an_equivalence, refusals_are_exclusive};
 pub use layout::{Layout, LayoutRefusal};
 pub use parts::InstanceParts;
 pub use plans::{Plan, Sweep, TrainRun};
 pub use scene::Scene;
+pub use segments::segments_of;
 pub use trains::{StopSpec, TrainSpec};

@@ -2,7 +2,7 @@ ghost use Rattle.std.specs.Prelude.{◌<◌, ◌^◌, MatchOption, length};
 ghost use Rattle.vss_lists.specs.Breaks.{HoldsOfEach, BreaksFirstAt};
 ghost use Rattle.cell_net.specs.Borders.{IsCandidate, RisesAt};
 
-use super::marks::rises_at;
+use super::rising::is_above_last;
 use crate::ids::CandidateId;
 use crate::parts::InstanceParts;
 use vss_lists::{Rule, first_break};
@@ -24,7 +24,7 @@ impl<'a> Rule<CandidateId> for RisingRule<'a> {
     ghost holds = { λ r place border. RisesAt r.borders.now place border };
 
     fn holds(&self, place: u32, border: &CandidateId) -> bool {
-        rises_at(self.borders, place, *border)
+        is_above_last(self.borders, place, border)
     }
 }
 

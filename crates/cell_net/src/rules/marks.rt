@@ -1,10 +1,10 @@
 ghost use Rattle.std.specs.Prelude.{◌↔◌, All, IsTrue, ◌<◌, ◌^◌, length, MatchOption};
 ghost use Rattle.vss_lists.specs.Breaks.{HoldsOfEach, BreaksFirstAt};
 ghost use Rattle.cell_net.specs.Space.{IsCell};
-ghost use Rattle.cell_net.specs.Borders.{RisesAt};
 ghost use Rattle.cell_net.specs.Rules.{IsGoodKept, IsGoodStation};
 
 use super::cells::is_cell;
+use super::rising::is_above_last;
 use crate::ids::{CandidateId, CellId};
 use crate::parts::InstanceParts;
 use vss_lists::{Items, Rule, first_break};
@@ -26,21 +26,8 @@ impl<'a> Rule<CandidateId> for KeptRule<'a> {
     ghost holds = { λ r place kept. IsGoodKept r.parts.now place kept };
 
     fn holds(&self, place: u32, kept: &CandidateId) -> bool {
-        rises_at(self.parts.kept.as_slice(), place, *kept)
+        is_above_last(self.parts.kept.as_slice(), place, kept)
             && (kept.0 as usize) < self.parts.candidates.len()
-    }
-}
-
-/// Whether what stands before the place, if anything, is below this candidate.
-pub(super) fn rises_at(candidates: &[CandidateId], place: u32, this: CandidateId) -> bool
-    ensures { IsTrue result ↔ RisesAt candidates.now place this }
-{
-    match place.checked_sub(1) {
-        Some(before) => match candidates.get(before as usize) {
-            Some(candidate) => candidate.0 < this.0,
-            None => true,
-        },
-        None => true,
     }
 }
 
