@@ -1,10 +1,10 @@
-ghost use Rattle.std.specs.Prelude.{◌≡◌, ◌<◌, ◌≤◌, ◌↔◌, IfOk, IsTrue, length, map};
+ghost use Rattle.std.specs.Prelude.{◌≡◌, ◌<◌, ◌↔◌, IfOk, IsTrue, length};
 ghost use Rattle.cell_net.specs.Borders.{IsBorderSet};
 ghost use Rattle.layout_rules.specs.Classes.{AreClasses, class_of};
-ghost use Rattle.layout_rules.specs.Segments.{AreBarriers, segment_between};
+ghost use Rattle.cell_net.specs.Segments.{AreBarriers};
 
-use cell_net::{CandidateId, CellId, CellSpec, Instance, Layout};
-use node_groups::{Segment, groups_of};
+use cell_net::{CandidateId, CellId, Instance, Layout, segments_of};
+use node_groups::groups_of;
 use std::alloc::{AllocError, Global};
 use std::marker::Model;
 
@@ -28,7 +28,7 @@ pub fn classes_of(alloc: Global, inst: &Instance, layout: &Layout) -> Result<Cla
     requires { IsBorderSet inst.now layout.now }
     ensures { IfOk result (AreClasses inst.now layout.now) }
 {
-    let segments = segments_of(alloc, inst)?;
+    let segments = segments_of(alloc, inst.parts())?;
     let barriers = barriers_of(alloc, inst, layout.borders())?;
     let classes = groups_of(alloc, &segments, &barriers)?;
     Ok(Classes { classes })
@@ -50,27 +50,6 @@ impl Classes {
         ensures { result ≡ class_of self.now cell }
     {
         self.classes[cell.0 as usize]
-    }
-}
-
-fn segments_of(alloc: Global, inst: &Instance) -> Result<Vec<Segment>, AllocError>
-    ensures cells { IfOk result (λ segments. segments.items ≡ map segment_between inst.now.cells) }
-    ensures few { IfOk result (λ segments. length segments.items ≤ 1000) }
-{
-    let mut segments = Vec::new(alloc);
-    for cell in inst.parts().cells.as_slice() {
-        segments.push(segment_between(*cell))?;
-    }
-    Ok(segments)
-}
-
-fn segment_between(cell: CellSpec) -> Segment
-    ensures { result ≡ segment_between cell }
-{
-    Segment {
-        low: cell.low.0,
-        high: cell.high.0,
-        part: cell.section.0,
     }
 }
 

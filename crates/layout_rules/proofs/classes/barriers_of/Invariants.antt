@@ -1,5 +1,5 @@
 use Rattle.std.proofs.Common.{take}
-use Rattle.layout_rules.specs.Segments.{AreBarriers}
+use Rattle.cell_net.specs.Segments.{AreBarriers}
 use Rattle.layout_rules.proofs.classes.barriers_of.Given as goal
 
 abbrev pub invariant-loop-border : goal.invariant-loop-border
