@@ -17,6 +17,7 @@ use Rattle.cell_net.specs.declared.cells.CellSpec.{CellSpec}
 use Rattle.cell_net.specs.declared.parts.InstanceParts.{InstanceParts}
 use Rattle.cell_net.proofs.SegmentLemmas.{cell_at, end_of_cell, end_of_segment, linked_as_reached, segment_at}
 use Rattle.node_groups.specs.Parts.{HasMoreNodes as HasMorePartNodes, IsConnected as IsConnectedPart, IsOfPart, IsNodeOf, NamesEach, IsTree, FailsFirst, Finds, segment_count}
+use Rattle.node_groups.proofs.PartLaws.{names_alike, some_of_part}
 use Rattle.node_groups.specs.Touch.{HasEnd}
 use Rattle.node_groups.specs.declared.segments.Segment.{Segment}
 
@@ -47,14 +48,6 @@ any_map {X} {Y} f P xs = (
 any_along : {X : Type 0} (P Q : X → Type 0) → ((x : X) → P x → Q x) → (xs : List X) → Any P xs → Any Q xs
 any_along P Q along xs (k, x, within, is, holds) = (k, x, within, is, along x holds)
 
-filter_none : {X : Type 0} (test : X → Bool) (xs : List X) → ((k : ℕ) (x : X) → slice_get xs k ≡ Some x → test x ≡ false) → filter test xs ≡ []
-filter_none test [] none = refl
-filter_none test (x ∷ xs) none =
-    ap (λ b. cond b (x ∷ filter test xs) (filter test xs)) (none 0 x refl) ∙ filter_none test xs (λ k y is. none (suc k) y is)
-
-count_none : {X : Type 0} (test : X → Bool) (xs : List X) → ((k : ℕ) (x : X) → slice_get xs k ≡ Some x → test x ≡ false) → count_by test xs ≡ 0
-count_none test xs none = sym (length-filter test xs) ∙ ap length (filter_none test xs none)
-
 -- the section of the instance against the part of its segments
 module _ (p : InstanceParts) (s : ℕ) where
   count : segment_count (map segment_of p.cells) s ≡ cell_count p s
@@ -82,17 +75,11 @@ module _ (p : InstanceParts) (s : ℕ) where
         (all (record { 0 = i }) (record { 0 = j }) (cell_of_part i i_in) (cell_of_part j j_in)),
   )
 
-  names_along : (P Q : ℕ → Type 0) → ((n : ℕ) → P n ↔ Q n) → (nodes : List ℕ) → NamesEach P nodes → NamesEach Q nodes
-  names_along P Q same nodes names = record {
-    once = names.once;
-    each = λ n. (λ there. (same n).0 ((names.each n).0 there), λ holds. (names.each n).1 ((same n).1 holds));
-  }
-
   more_nodes : HasMorePartNodes (map segment_of p.cells) s ↔ HasMoreNodes p s
   unfolding HasMorePartNodes HasMoreNodes
   more_nodes = (
-    λ (nodes, names, more). (nodes, names_along _ _ touched nodes names, omega (arith, count, more)),
-    λ (nodes, names, more). (nodes, names_along _ _ (λ n. ((touched n).1, (touched n).0)) nodes names, omega (arith, count, more)),
+    λ (nodes, names, more). (nodes, names_alike _ _ touched nodes names, omega (arith, count, more)),
+    λ (nodes, names, more). (nodes, names_alike _ _ (λ n. ((touched n).1, (touched n).0)) nodes names, omega (arith, count, more)),
   )
 
   good_as_tree : IsTree (map segment_of p.cells) s ↔ IsGoodSection p s
@@ -104,11 +91,11 @@ module _ (p : InstanceParts) (s : ℕ) where
   -- a number past the last section has no cells
   good_past : HoldsOfEach (IsGoodCell p) p.cells → p.sections ≤ s → IsGoodSection p s
   good_past cells past =
-      let none : (k : ℕ) (c : CellSpec) → slice_get p.cells k ≡ Some c → eqb c.section.0 s ≡ false =
-      λ k c is. let good = cells.at_each k c is in ne_eqb c.section.0 s (λ same. absurd (omega (arith, good.section, same))) in
+      let none : (c : CellId) → ¬ IsInSection p s c =
+      λ c is. (let good = cells.at_each c.0 is.cell is.is in omega (arith, good.section, is.of_section)) in
       record {
-        connected = λ e f e_in f_in. absurd (let good = cells.at_each e.0 e_in.cell e_in.is in omega (arith, good.section, e_in.of_section));
-        more_nodes = λ some. absurd (omega (arith, some, count_none (λ (c : CellSpec). eqb c.section.0 s) p.cells none));
+        connected = λ e f e_in f_in. absurd (none e e_in);
+        more_nodes = λ some. let (k, is) = some_of_part (map segment_of p.cells) s (omega (arith, count, some)) in absurd (none (record { 0 = k }) (cell_of_part k is));
       }
 
 pub first_bad : (p : InstanceParts) → HoldsOfEach (IsGoodCell p) p.cells → (first : Option ℕ) → Finds (IsTree (map segment_of p.cells)) first → MatchOption first (HasGoodSections p) (IsFirstBadSection p)

@@ -57,8 +57,7 @@ impl Layout {
     }
 
     pub fn borders(&self) -> &[CandidateId]
-        ensures borders { result.now ≡ self.now }
-        ensures rising { HoldsOfEach (RisesAt self.now) self.now }
+        ensures { result.now ≡ self.now }
     {
         self.borders.as_slice()
     }
