@@ -1,18 +1,14 @@
 -- Linked cells are segments that reach each other.
-use Rattle.std.proofs.Common.{◌≡◌, ◌<◌, ◌≤◌, ◌⊎◌, ◌↔◌, inl, inr, ℕ, List, [], ◌∷◌, ◌++◌, length, map, Any, Contains, Some, slice_get, slice_index, get_or, option_map, refl, sym, subst, ◌∙◌, ap, arith}
+use Rattle.std.proofs.Common.{◌≡◌, ◌≤◌, ◌↔◌, inl, inr, ℕ, List, [], ◌∷◌, ◌++◌, length, map, Contains, Some, slice_get, slice_index, get_or, sym, subst, ◌∙◌, ap, arith}
 use Rattle.std.proofs.lemmas.List.{length-map, get_or_default}
-use Rattle.std.proofs.lemmas.Option.{slice_get-map, slice_get_cases}
 use Rattle.std.proofs.lemmas.List.Elements.{Contains-append_left, Contains-push, Contains-push_cases}
-use Rattle.cell_net.specs.Borders.{IsBorder, IsAtEnd, Meet, Linked}
-use Rattle.cell_net.specs.declared.ids.CellId.{CellId}
 use Rattle.cell_net.specs.declared.ids.NodeId.{NodeId}
 use Rattle.cell_net.specs.declared.ids.CandidateId.{CandidateId}
-use Rattle.cell_net.specs.declared.cells.CellSpec.{CellSpec}
 use Rattle.cell_net.specs.declared.parts.InstanceParts.{InstanceParts}
 use Rattle.node_groups.specs.Reach.{Reaches}
-use Rattle.node_groups.specs.Touch.{HasEnd, Touch}
+use Rattle.node_groups.specs.Touch.{Touch}
 use Rattle.node_groups.specs.declared.segments.Segment.{Segment}
-use Rattle.node_groups.proofs.ReachLaws.{Reaches-alike, Reaches-refl}
+use Rattle.node_groups.proofs.ReachLaws.{Reaches-refl}
 use Rattle.node_groups.specs.Groups.{GroupsByReach, NamedByLowest}
 use Rattle.layout_rules.specs.Classes.{AreClasses}
 use Rattle.cell_net.specs.Segments.{AreBarriers, segment_of}

@@ -81,7 +81,7 @@ PutsAllBut-more : (before now : Option (List ℕ)) (kept one other : List ℕ) �
 PutsAllBut-more before now kept one other so_far = record {
   put = so_far.put;
   grew = so_far.grew;
-  rest = sym (append_assoc so_far.put kept other) ∙ ap (λ w. w ++ other) so_far.rest
+  rest = sym (append_assoc so_far.put kept other) ∙ ap (λ w. w ++ other) so_far.rest;
 }
 
 -- more bytes are printed behind a text, but for what is kept then

@@ -1,4 +1,4 @@
-use Rattle.std.proofs.Common.{◌<◌, length, arith, rules}
+use Rattle.std.proofs.Common.{arith, rules}
 use Rattle.layout_rules.proofs.SeenCells.{nothing_seen, seen_more}
 use Rattle.layout_rules.proofs.paths.have_no_cell_twice.Goals as goal
 
