@@ -1,6 +1,13 @@
 //! Derivation logs: the steps by which a formula is refuted.
 #![tactic(auto)]
 
+mod line_fault;
+mod list;
+mod number;
+mod read;
 mod step;
+mod word;
 
+pub use line_fault::LineFault;
+pub use read::read_step;
 pub use step::{Bound, Log, Refutation, Step};

@@ -12,7 +12,9 @@ pub enum Step {
         hints: Items<ClauseId>,
     },
     /// Drops the clauses with these numbers.
-    Drop { ids: Items<ClauseId> },
+    Drop {
+        ids: Items<ClauseId>,
+    },
 }
 
 /// The steps of a derivation, in order.

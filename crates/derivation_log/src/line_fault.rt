@@ -1,0 +1,11 @@
+use thiserror::Error;
+
+/// Why a line isn't read.
+#[derive(Clone, Copy, Debug, PartialEq, Eq, Error)]
+pub enum LineFault {
+    /// No step has this text.
+    #[error("the line is no step of a derivation")]
+    BadLine,
+    #[error("out of memory")]
+    Memory,
+}

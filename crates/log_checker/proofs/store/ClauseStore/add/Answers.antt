@@ -1,0 +1,16 @@
+use Rattle.std.proofs.Common.{◌≡◌, ◌++◌, ◌∷◌, [], arith, ap}
+use Rattle.log_checker.proofs.StoreLemmas.{AreNumbered-push, live_after-push, clauses_within}
+use Rattle.log_checker.proofs.store.ClauseStore.add.Goals as goal
+
+pub push-requires-clause-numbered : goal.push-requires-clause-numbered
+push-requires-clause-numbered c = omega (arith, c.requires.in_order, ap (λ database. database.last) c.self.view_is, clauses_within c.self.inside.numbers.items c.self.inside.last c.self.inside.dropped c.self.inside.formula.clauses c.self.invariant)
+
+pub invariant_of-self-2 : goal.invariant_of-self-2
+invariant_of-self-2 c =
+    let numbers : c.push_reserved.new.self.items ≡ c.self.inside.numbers.items ++ c.args.id ∷ [] = cc (c.push_reserved.ensures.items, c.in_ok-reserve.ensures.items) in
+    rw (numbers, c.in_ok-push.ensures.ok) (AreNumbered-push c.self.inside.numbers.items c.self.inside.last c.self.inside.dropped c.self.inside.formula.clauses c.args.id c.args.lits.now c.self.invariant (omega (arith, c.requires.in_order, ap (λ database. database.last) c.self.view_is)) (omega arith))
+
+pub returns-clause-ok : goal.returns-clause-ok
+returns-clause-ok c =
+    let numbers : c.push_reserved.new.self.items ≡ c.self.inside.numbers.items ++ c.args.id ∷ [] = cc (c.push_reserved.ensures.items, c.in_ok-reserve.ensures.items) in
+    rw (numbers, c.in_ok-push.ensures.ok, c.in_ok-push.ensures.vars, live_after-push c.self.inside.numbers.items c.self.inside.last c.self.inside.dropped c.self.inside.formula.clauses c.args.id c.args.lits.now c.self.invariant) (ap (λ database. record { vars = database.vars; last = c.args.id.0; live = database.live ++ record { id = c.args.id; lits = c.args.lits.now } ∷ [] }) c.self.view_is)

@@ -1,0 +1,5 @@
+pub mod Assigned
+pub mod Drops
+pub mod Readings
+pub mod Stored
+pub mod Verdicts

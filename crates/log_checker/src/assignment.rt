@@ -1,0 +1,94 @@
+ghost use Rattle.std.specs.Prelude.{◌≡◌, ◌+◌, ◌-◌, ◌*◌, ◌<◌, ◌≤◌, Bool, false, IfOk, OnOk, OnErr, [], ◌∷◌, ◌++◌, ◌||◌, cond, length, All, slice_index_or};
+ghost use Rattle.sat_core.specs.declared.literal.Lit.{Lit};
+ghost use Rattle.sat_core.specs.Clauses.{negated, IsOver};
+ghost use Rattle.sat_core.specs.Hints.{is_known as is_known_of};
+ghost use Rattle.log_checker.specs.Assigned.{mark_place, AreMarked};
+
+use sat_core::Lit;
+use std::alloc::{AllocError, Global};
+use std::marker::Model;
+
+/// The literals that are known to be true while a step is read. Marks tell a known literal in constant time; the
+/// trail undoes them.
+#[derive(Debug, Drop)]
+pub(crate) struct Assignment {
+    vars: u32,
+    marks: Vec<bool>,
+    trail: Vec<Lit>,
+}
+
+impl Model for Assignment {
+    ghost use Rattle.log_checker.specs.Assigned.{Known, AreMarked};
+
+    ghost Value = { Known };
+
+    ghost view = { λ a. record { vars = a.vars; lits = a.trail.items } };
+
+    ghost invariant = { λ a. AreMarked a.vars a.marks.items a.trail.items };
+}
+
+impl Assignment {
+    /// Nothing is known. Takes two bytes a variable.
+    pub(crate) fn new(alloc: Global, vars: u32) -> Result<Assignment, AllocError>
+        ensures { IfOk result (λ fresh. (fresh.vars ≡ vars) × (fresh.lits ≡ [])) }
+    {
+        Ok(Assignment {
+            vars,
+            marks: vec![in alloc; false; 2 * vars as usize]?,
+            trail: Vec::new(alloc),
+        })
+    }
+
+    pub(crate) fn is_known(&self, lit: Lit) -> bool
+        requires { IsOver self.now.vars lit }
+        ensures { result ≡ is_known_of self.now.lits lit }
+    {
+        self.marks[mark_of(lit)]
+    }
+
+    /// Whether the literal or its negation is known.
+    pub(crate) fn has_value(&self, lit: Lit) -> bool
+        requires { IsOver self.now.vars lit }
+        ensures { result ≡ (is_known_of self.now.lits lit || is_known_of self.now.lits (negated lit)) }
+    {
+        self.is_known(lit) || self.is_known(lit.negated())
+    }
+
+    /// Takes memory only where the trail has no room at hand.
+    pub(crate) fn assume(&mut self, lit: Lit) -> Result<(), AllocError>
+        requires { IsOver self.old.vars lit }
+        ensures vars { self.new.vars ≡ self.old.vars }
+        ensures ok { OnOk result (self.new.lits ≡ self.old.lits ++ lit ∷ []) }
+        ensures err { OnErr result (self.new.lits ≡ self.old.lits) }
+    {
+        self.trail.push(lit)?;
+        self.marks[mark_of(lit)] = true;
+        Ok(())
+    }
+
+    /// Forgets all literals, in time linear in them.
+    pub(crate) fn clear(&mut self)
+        ensures vars { self.new.vars ≡ self.old.vars }
+        ensures none { self.new.lits ≡ [] }
+    {
+        unmark(self.vars, self.marks.as_mut_slice(), self.trail.as_slice());
+        self.trail.clear();
+    }
+}
+
+fn mark_of(lit: Lit) -> usize
+    requires { 1 ≤ lit.var.0 }
+    ensures { result ≡ mark_place lit }
+{
+    2 * (lit.var.0 as usize - 1) + usize::from(lit.positive)
+}
+
+// `vars` stands in the contract alone.
+fn unmark(vars: u32, marks: &mut [bool], trail: &[Lit])
+    requires { AreMarked vars marks.old trail.now }
+    ensures { (lit : Lit) → IsOver vars lit → slice_index_or marks.new (mark_place lit) false ≡ false }
+{
+    for lit in trail {
+        marks[mark_of(*lit)] = false;
+    }
+}

@@ -1,0 +1,106 @@
+ghost use Rattle.std.specs.Prelude.{◌≡◌, ◌⊎◌, ◌<◌, IfSome, IfErr, OnOk, OnErr, []};
+ghost use Rattle.std.specs.Option.{option_copied};
+ghost use Rattle.sat_core.specs.Clauses.{IsClause};
+ghost use Rattle.sat_core.specs.Hints.{clause_of};
+ghost use Rattle.sat_core.specs.Derivation.{database_of, adds, drops, after, IsAcceptedDrop};
+
+use crate::dropped::Dropped;
+use crate::drops::drop_all;
+use crate::numbers::place_of;
+use sat_core::{ClauseId, Formula, Lit, StepFault};
+use std::alloc::AllocError;
+use std::marker::Model;
+
+/// The live clauses by their numbers: those of the formula, and behind them in the same flat storage those of the log.
+#[derive(Debug, Drop)]
+pub(crate) struct ClauseStore {
+    formula: Formula,
+    // the numbers of the log's clauses
+    numbers: Vec<ClauseId>,
+    last: u32,
+    dropped: Dropped,
+}
+
+impl Model for ClauseStore {
+    ghost use Rattle.sat_core.specs.Derivation.{ClauseDatabase};
+    ghost use Rattle.log_checker.specs.Stored.{live_of, number_at, is_dropped, AreNumbered};
+
+    ghost Value = { ClauseDatabase };
+
+    ghost view = { λ s. record { vars = s.formula.vars; last = s.last; live = live_of (number_at s.dropped.own s.numbers.items) (is_dropped s.dropped) s.formula.clauses } };
+
+    ghost invariant = { λ s. AreNumbered s.dropped s.numbers.items s.last s.formula.clauses };
+}
+
+impl ClauseStore {
+    /// The clauses of the formula are live. Takes no memory.
+    pub(crate) fn new(formula: Formula) -> ClauseStore
+        ensures { result ≡ database_of formula.vars formula.clauses }
+    {
+        let alloc = formula.allocator();
+        let own = formula.len();
+        ClauseStore {
+            formula,
+            numbers: Vec::new(alloc),
+            last: own,
+            dropped: Dropped::new(alloc, own as usize),
+        }
+    }
+
+    pub(crate) fn vars(&self) -> u32
+        ensures { result ≡ self.now.vars }
+    {
+        self.formula.vars()
+    }
+
+    /// The greatest number so far.
+    pub(crate) fn last(&self) -> u32
+        ensures { result ≡ self.now.last }
+    {
+        self.last
+    }
+
+    /// The literals of the live clause with that number, if there is one.
+    pub(crate) fn lits(&self, id: ClauseId) -> Option<&[Lit]>
+        ensures lookup { option_copied result ≡ clause_of self.now.live id }
+        ensures clause { IfSome result (λ lits. IsClause self.now.vars lits.now) }
+    {
+        match place_of(self.dropped.own, self.numbers.as_slice(), self.last, id) {
+            None => None,
+            Some(place) => {
+                if self.dropped.contains(place) {
+                    None
+                } else {
+                    Some(self.formula.clause(ClauseId(place as u32 + 1)))
+                }
+            }
+        }
+    }
+
+    /// Makes one more clause live. Takes memory only where no room is at hand, and leaves all as it was where there is
+    /// none.
+    pub(crate) fn add(&mut self, id: ClauseId, lits: &[Lit]) -> Result<(), AllocError>
+        requires in_order { self.old.last < id.0 }
+        requires clause { IsClause self.old.vars lits.now }
+        ensures ok { OnOk result (self.new ≡ after self.old (adds id lits.now [])) }
+        ensures err { OnErr result (self.new ≡ self.old) }
+    {
+        self.numbers.reserve(1)?;
+        self.formula.push(lits)?;
+        self.numbers.push_reserved(id);
+        self.last = id.0;
+        Ok(())
+    }
+
+    /// Ends the clauses with these numbers. After a fault none of them is ended. Takes memory only where the marks of
+    /// dropped clauses have no room at hand.
+    pub(crate) fn end(&mut self, ids: &[ClauseId]) -> Result<(), StepFault>
+        ensures accepted { OnOk result (IsAcceptedDrop self.old ids.now) }
+        ensures ok { OnOk result (self.new ≡ after self.old (drops ids.now)) }
+        ensures unknown { result ≡ Err StepFault.UnknownClause → ¬ IsAcceptedDrop self.old ids.now }
+        ensures faults { IfErr result (λ fault. (fault ≡ StepFault.UnknownClause) ⊎ (fault ≡ StepFault.Memory)) }
+        ensures err { OnErr result (self.new ≡ self.old) }
+    {
+        drop_all(self.numbers.as_slice(), self.last, &mut self.dropped, ids)
+    }
+}

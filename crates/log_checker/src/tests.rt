@@ -1,0 +1,198 @@
+use crate::{Checker, LogVerdict, StepFault, check_log};
+use derivation_log::{Log, Step};
+use sat_core::{ClauseId, Formula, Lit, Var, is_clause};
+use std::alloc::{AllocError, Global};
+use std::process::Abort;
+use std::test::Fail;
+use vss_lists::Items;
+
+// A section of four cells with three candidates for borders: separation of cells, an entry that can't be met (clause
+// 7), and a counter of borders.
+const EXAMPLE: [&[i32]; 27] = [
+    &[-4, 1],
+    &[-5, 1, 2],
+    &[-6, 1, 2, 3],
+    &[-7, 2],
+    &[-8, 2, 3],
+    &[-9, 3],
+    &[],
+    &[-1, 19],
+    &[-19, 1],
+    &[-19, 20],
+    &[-2, 20],
+    &[-20, 19, 2],
+    &[-2, -19, 21],
+    &[-21, 2],
+    &[-21, 19],
+    &[-20, 22],
+    &[-3, 22],
+    &[-22, 20, 3],
+    &[-21, 23],
+    &[-3, -20, 23],
+    &[-23, 21, 3],
+    &[-23, 21, 20],
+    &[-3, -21, 24],
+    &[-24, 3],
+    &[-24, 21],
+    &[-23, 22],
+    &[-24, 23],
+];
+
+enum Line {
+    Add(u32, &'static [i32], &'static [u32]),
+    Drop(&'static [u32]),
+}
+
+fn lits_of(alloc: Global, numbers: &[i32]) -> Result<Vec<Lit>, AllocError> {
+    numbers
+        .iter()
+        .map(|number| Lit {
+            var: Var(number.unsigned_abs()),
+            positive: *number > 0,
+        })
+        .collect(alloc)
+}
+
+fn ids_of(alloc: Global, numbers: &[u32]) -> Result<Items<ClauseId>, AllocError> {
+    let ids: Vec<ClauseId> = numbers
+        .iter()
+        .map(|number| ClauseId(*number))
+        .collect(alloc)?;
+    Ok(Items::from_vec(ids))
+}
+
+fn step_of(alloc: Global, line: &Line) -> Result<Step, AllocError> {
+    match line {
+        Line::Add(id, lits, hints) => Ok(Step::Add {
+            id: ClauseId(*id),
+            lits: Items::from_vec(lits_of(alloc, lits)?),
+            hints: ids_of(alloc, hints)?,
+        }),
+        Line::Drop(ids) => Ok(Step::Drop {
+            ids: ids_of(alloc, ids)?,
+        }),
+    }
+}
+
+fn example(rt: &impl Abort, alloc: Global) -> Result<Formula, Fail> {
+    let mut formula = Formula::new(alloc, 24);
+    for numbers in EXAMPLE {
+        let lits = lits_of(alloc, numbers)?;
+        assert!(rt; is_clause(formula.vars(), lits.as_slice()));
+        assert!(rt; formula.len() < 100);
+        formula.push(lits.as_slice())?;
+    }
+    Ok(formula)
+}
+
+fn verdict_on(rt: &impl Abort, alloc: Global, lines: &[Line]) -> Result<LogVerdict, Fail> {
+    let mut steps = Items::new(alloc);
+    for line in lines {
+        steps.push(step_of(alloc, line)?)?;
+    }
+    assert!(rt; steps.len() < 1_000_000);
+    Ok(check_log(example(rt, alloc)?, &Log { steps })?)
+}
+
+#[test]
+fn tells_the_first_fault_of_each_log(rt: HostRuntime) -> Result<(), Fail> {
+    let bad = |index, fault| LogVerdict::Bad { index, fault };
+    let table: [(&[Line], LogVerdict); 18] = [
+        (&[], LogVerdict::NoEmptyClause),
+        (&[Line::Add(28, &[], &[7])], LogVerdict::Refutes),
+        (&[Line::Add(27, &[], &[7])], bad(0, StepFault::IdOrder)),
+        (
+            &[Line::Add(28, &[25], &[7])],
+            bad(0, StepFault::UnknownVariable),
+        ),
+        (&[Line::Add(28, &[5, -5], &[7])], bad(0, StepFault::Twofold)),
+        (
+            &[Line::Add(28, &[], &[40])],
+            bad(0, StepFault::UnknownClause),
+        ),
+        (&[Line::Add(28, &[], &[6])], bad(0, StepFault::HintNotUnit)),
+        (&[Line::Add(28, &[], &[])], bad(0, StepFault::NoConflict)),
+        (
+            &[Line::Add(28, &[], &[7, 7])],
+            bad(0, StepFault::HintsAfterConflict),
+        ),
+        (&[Line::Add(28, &[5], &[7])], LogVerdict::NoEmptyClause),
+        (
+            &[Line::Drop(&[7]), Line::Add(28, &[], &[7])],
+            bad(1, StepFault::UnknownClause),
+        ),
+        (&[Line::Drop(&[7, 7])], bad(0, StepFault::UnknownClause)),
+        (
+            &[Line::Add(28, &[], &[28])],
+            bad(0, StepFault::UnknownClause),
+        ),
+        (
+            &[Line::Add(28, &[], &[7]), Line::Add(29, &[1], &[7])],
+            LogVerdict::NoEmptyClause,
+        ),
+        // numbers with gaps, which are found by search
+        (
+            &[
+                Line::Add(40, &[1], &[7]),
+                Line::Add(60, &[-1], &[7]),
+                Line::Add(61, &[], &[40, 60]),
+            ],
+            LogVerdict::Refutes,
+        ),
+        (
+            &[
+                Line::Add(40, &[1], &[7]),
+                Line::Drop(&[40]),
+                Line::Add(60, &[1], &[40]),
+            ],
+            bad(2, StepFault::UnknownClause),
+        ),
+        // a literal that an earlier step made known is unassigned again
+        (
+            &[Line::Add(28, &[-1, 19], &[8]), Line::Add(29, &[19], &[8])],
+            bad(1, StepFault::NoConflict),
+        ),
+        // a drop that fails at its end drops nothing
+        (
+            &[Line::Drop(&[7, 40]), Line::Add(28, &[], &[7])],
+            bad(0, StepFault::UnknownClause),
+        ),
+    ];
+    for (place, (lines, verdict)) in table.iter().enumerate() {
+        assert_eq!(rt;
+            verdict_on(&rt, rt.alloc(), lines)?,
+            *verdict,
+            "log {place}"
+        );
+    }
+    Ok(())
+}
+
+#[test]
+fn takes_a_step_after_a_refused_one(rt: HostRuntime) -> Result<(), Fail> {
+    let mut checker = Checker::new(example(&rt, rt.alloc())?)?;
+    let refused = step_of(rt.alloc(), &Line::Drop(&[6, 7, 40]))?;
+    assert_eq!(rt; checker.take(&refused), Err(StepFault::UnknownClause));
+    let taken = step_of(rt.alloc(), &Line::Add(28, &[-19], &[7]))?;
+    assert_eq!(rt; checker.take(&taken), Ok(()));
+    Ok(())
+}
+
+#[test]
+fn refutes_by_a_long_log(rt: HostRuntime) -> Result<(), Fail> {
+    let mut steps = Items::new(rt.alloc());
+    for id in 28..100_028 {
+        steps.push(Step::Add {
+            id: ClauseId(id),
+            lits: Items::from_vec(lits_of(rt.alloc(), &[1])?),
+            hints: ids_of(rt.alloc(), &[7])?,
+        })?;
+    }
+    steps.push(step_of(rt.alloc(), &Line::Add(100_028, &[], &[7]))?)?;
+    assert!(rt; steps.len() < 1_000_000);
+    assert_eq!(rt;
+        check_log(example(&rt, rt.alloc())?, &Log { steps })?,
+        LogVerdict::Refutes
+    );
+    Ok(())
+}
