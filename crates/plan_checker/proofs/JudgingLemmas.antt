@@ -1,12 +1,12 @@
 -- On the verdict: runs by train, and what each breach excludes.
-use Rattle.std.proofs.Common.{◌≡◌, ◌<◌, ◌≤◌, ◌+◌, ◌⊎◌, inl, inr, ℕ, zero, suc, List, [], ◌∷◌, length, Some, slice_get, slice_index_or, Contains, All, AllPairs, refl, sym, subst, ◌∙◌, ap, below_more, arith}
+use Rattle.std.proofs.Common.{◌≡◌, ◌<◌, ◌+◌, inl, inr, ℕ, zero, suc, List, [], ◌∷◌, length, Some, slice_get, slice_index_or, Contains, refl, sym, subst, ◌∙◌, below_more, arith}
 use Rattle.std.specs.List.{AllZip}
 use Rattle.std.proofs.lemmas.Option.{slice_get_cases, slice_get_within, slice_get-get_or, get_or_from_slice_get}
 use Rattle.std.proofs.lemmas.List.Elements.{All-contains}
-use Rattle.vss_lists.specs.Breaks.{HoldsOfEach, BreaksFirstAt}
-use Rattle.cell_net.specs.Borders.{IsBorderSet, IsLayout, Linked}
-use Rattle.cell_net.specs.Runs.{IsRun, IsSweep, IsSweepAt, IsMet, Continues}
-use Rattle.cell_net.specs.Plans.{AreApart, AreSeparated, IsLawful}
+use Rattle.vss_lists.specs.Breaks.{BreaksFirstAt}
+use Rattle.cell_net.specs.Borders.{IsBorderSet, Linked}
+use Rattle.cell_net.specs.Runs.{IsRun, IsSweep, IsMet, Continues}
+use Rattle.cell_net.specs.Plans.{AreApart, IsLawful}
 use Rattle.cell_net.specs.declared.ids.CandidateId.{CandidateId}
 use Rattle.cell_net.specs.declared.ids.CellId.{CellId}
 use Rattle.cell_net.specs.declared.ids.TrainId.{TrainId}

@@ -1,7 +1,7 @@
 -- On the faults of runs.
-use Rattle.std.proofs.Common.{◌≡◌, ◌<◌, ◌≤◌, ◌+◌, ◌-◌, ℕ, List, length, Some, slice_get, subst, sym, ◌∙◌, below_more, arith}
+use Rattle.std.proofs.Common.{◌≡◌, ◌≤◌, ◌+◌, ◌-◌, ℕ, List, length, Some, slice_get, subst, sym, ◌∙◌, below_more, arith}
 use Rattle.std.proofs.lemmas.Option.{slice_get_within}
-use Rattle.vss_lists.specs.Breaks.{HoldsBelow, HoldsOfEach, BreaksFirstAt}
+use Rattle.vss_lists.specs.Breaks.{HoldsBelow, HoldsOfEach}
 use Rattle.cell_net.specs.Runs.{IsSweep, Enters}
 use Rattle.cell_net.specs.declared.cells.DirCell.{DirCell}
 use Rattle.cell_net.specs.declared.plans.Sweep.{Sweep}
@@ -11,7 +11,7 @@ use Rattle.cell_net.specs.declared.parts.InstanceParts.{InstanceParts}
 use Rattle.layout_rules.specs.Faults.{IsFaultOf}
 use Rattle.layout_rules.specs.declared.sweeps.SweepFault.{SweepFault}
 use Rattle.layout_rules.specs.declared.sweeps.SweepFault.TheVariants.{Path, Length, Speed}
-use Rattle.plan_checker.specs.RunFaults.{FitsAt, GoesOn, IsMisfit, IsRunFault, MisfitsFirstAt, fault_at_step}
+use Rattle.plan_checker.specs.RunFaults.{FitsAt, IsMisfit, IsRunFault, MisfitsFirstAt, fault_at_step}
 use Rattle.plan_checker.specs.declared.sweeps.Misfit.{Misfit}
 use Rattle.plan_checker.specs.declared.sweeps.Misfit.TheVariants.{NoSweep, Join}
 

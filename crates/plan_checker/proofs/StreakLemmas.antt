@@ -1,5 +1,5 @@
 -- How long something has held in a row, within a window of steps.
-use Rattle.std.proofs.Common.{◌≡◌, ◌<◌, ◌≤◌, ◌+◌, ◌-◌, ◌⊎◌, inl, inr, ℕ, arith, below_more, subst}
+use Rattle.std.proofs.Common.{◌≡◌, ◌<◌, ◌≤◌, ◌+◌, ◌-◌, inl, inr, ℕ, arith, below_more}
 use Rattle.std.proofs.lemmas.Bool.Decides.{leb_tells, eqb_tells}
 
 -- before the step `now` the property P has held `stood` steps in a row within the window, not yet for

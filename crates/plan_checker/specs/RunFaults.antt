@@ -1,5 +1,5 @@
 -- What is wrong with a run that is none of its train: the first in the judge's order.
-use Rattle.std.specs.Prelude.{◌≡◌, ◌<◌, ◌≤◌, ◌+◌, ◌-◌, ℕ, List, length, Some, slice_get}
+use Rattle.std.specs.Prelude.{◌≡◌, ◌≤◌, ◌+◌, ◌-◌, ℕ, List, length, Some, slice_get}
 use Rattle.vss_lists.specs.Breaks.{HoldsOfEach, BreaksFirstAt}
 use Rattle.cell_net.specs.Runs.{IsSweep, Continues, Enters, Arrives, IsMet}
 use Rattle.cell_net.specs.declared.plans.Sweep.{Sweep}
@@ -8,7 +8,6 @@ use Rattle.cell_net.specs.declared.trains.StopSpec.{StopSpec}
 use Rattle.cell_net.specs.declared.trains.TrainSpec.{TrainSpec}
 use Rattle.cell_net.specs.declared.parts.InstanceParts.{InstanceParts}
 use Rattle.layout_rules.specs.Faults.{IsFaultOf}
-use Rattle.layout_rules.specs.declared.sweeps.SweepFault.{SweepFault}
 use Rattle.plan_checker.specs.declared.runs.RunFault.{RunFault}
 use Rattle.plan_checker.specs.declared.sweeps.Misfit.{Misfit}
 use Rattle.plan_checker.specs.declared.sweeps.Misfit.TheVariants.{NoSweep, Join}

@@ -1,8 +1,5 @@
-use Rattle.std.proofs.Common.{◌≡◌, ◌<◌, length, Some, slice_get, refl, arith}
-use Rattle.std.proofs.lemmas.Option.{slice_get_read, slice_get_within}
-use Rattle.cell_net.specs.Runs.{IsRun}
-use Rattle.cell_net.specs.declared.trains.TrainSpec.{TrainSpec}
-use Rattle.plan_checker.specs.RunFaults.{IsRunFault}
+use Rattle.std.proofs.Common.{length, refl, arith}
+use Rattle.std.proofs.lemmas.Option.{slice_get_read}
 use Rattle.plan_checker.proofs.JudgingLemmas.{runs_more, fails_here}
 use Rattle.plan_checker.proofs.judging.first_bad_run.Goals as goal
 

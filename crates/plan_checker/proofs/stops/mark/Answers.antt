@@ -1,4 +1,4 @@
-use Rattle.std.proofs.Common.{◌≡◌, ◌∙◌, refl, length, take, arith}
+use Rattle.std.proofs.Common.{◌≡◌, ◌∙◌, refl, take, arith}
 use Rattle.std.proofs.lemmas.List.{take_more, take_all, length-set}
 use Rattle.plan_checker.proofs.StopLemmas.{mark_more, marks_nothing}
 use Rattle.plan_checker.proofs.stops.mark.Goals as goal

@@ -1,5 +1,5 @@
-use Rattle.std.proofs.Common.{◌≡◌, sym, Some, slice_get}
-use Rattle.plan_checker.proofs.StopLemmas.{stands_there, stands_within}
+use Rattle.std.proofs.Common.{sym}
+use Rattle.plan_checker.proofs.StopLemmas.{stands_there}
 use Rattle.plan_checker.proofs.stops.stands_at.Goals as goal
 
 pub returns-in-Some : goal.returns-in-Some

@@ -1,6 +1,6 @@
-use Rattle.std.proofs.Common.{◌≡◌, ◌+◌, ◌<◌, ◌≤◌, ℕ, arith, rules, true, false, add_assoc, sym, subst}
+use Rattle.std.proofs.Common.{◌≡◌, ◌+◌, arith, rules, true, false, subst}
 use Rattle.cell_net.specs.Runs.{IsMet, StandsIn}
-use Rattle.plan_checker.proofs.StreakLemmas.{Streak, streak_start, streak_more, streak_break, streak_met, streak_end}
+use Rattle.plan_checker.proofs.StreakLemmas.{Streak, streak_more, streak_break, streak_met, streak_end}
 use Rattle.plan_checker.proofs.StopLemmas.{stands_within}
 use Rattle.plan_checker.proofs.stops.stands_long_enough.Goals as goal
 use Rattle.plan_checker.proofs.stops.stands_long_enough.Goals.{then-counts_at+else-stood-stop, else-counts_at}

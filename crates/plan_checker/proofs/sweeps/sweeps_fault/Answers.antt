@@ -1,8 +1,6 @@
-use Rattle.std.proofs.Common.{◌≡◌, List, length, Some, slice_get, arith, refl, subst}
+use Rattle.std.proofs.Common.{◌≡◌, length, Some, slice_get, arith, refl}
 use Rattle.std.proofs.lemmas.Option.{slice_get_read}
-use Rattle.vss_lists.specs.Breaks.{HoldsBelow}
-use Rattle.cell_net.specs.declared.plans.Sweep.{Sweep}
-use Rattle.plan_checker.specs.RunFaults.{FitsAt, IsMisfit}
+use Rattle.plan_checker.specs.RunFaults.{FitsAt}
 use Rattle.plan_checker.proofs.RunLemmas.{misfit_is_fault, holds_more, holds_each}
 use Rattle.plan_checker.proofs.sweeps.sweeps_fault.Goals as goal
 
