@@ -13,3 +13,6 @@ pub use line_fault::LineFault;
 pub use read::read_step;
 pub use step::{Bound, Log, Refutation, Step};
 pub use write::write_step;
+
+#[cfg(test)]
+mod tests;
