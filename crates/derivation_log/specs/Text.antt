@@ -18,10 +18,17 @@ literal_text lit = cond lit.positive [] (codes "-") ++ decimal lit.var.0
 abbrev pub list_text : {X : Type 0} → (X → List ℕ) → List X → List ℕ
 list_text word words = flat_map (λ x. word x ++ codes " ") words ++ codes "0"
 
--- `a`, the number, the literals and the hints; or `d` and the numbers
+-- `a`, the number, the literals and the hints
+abbrev pub clause_text : ClauseId → List Lit → List ClauseId → List ℕ
+clause_text id lits hints = codes "a " ++ (number_text id ++ (codes " " ++ (list_text literal_text lits ++ (codes " " ++ list_text number_text hints))))
+
+-- `d` and the numbers
+abbrev pub drop_text : List ClauseId → List ℕ
+drop_text ids = codes "d " ++ list_text number_text ids
+
 abbrev pub step_text : Step → List ℕ
-step_text (Add id lits hints) = codes "a " ++ (number_text id ++ (codes " " ++ (list_text literal_text lits ++ (codes " " ++ list_text number_text hints))))
-step_text (Drop ids) = codes "d " ++ list_text number_text ids
+step_text (Add id lits hints) = clause_text id lits hints
+step_text (Drop ids) = drop_text ids
 
 -- numbers of clauses and variables in a log are 1 to 999,999,999
 abbrev pub IsLogNumber : ℕ → Type 0

@@ -1,8 +1,11 @@
 // The words of a step's lists.
-ghost use Rattle.std.specs.Prelude.{◌≡◌, ◌≢◌, ℕ, List, ◌∷◌, ◌++◌, IfSome, IfNone, slice_index};
+ghost use Rattle.std.specs.Prelude.{◌≡◌, ◌≢◌, ℕ, List, ◌∷◌, ◌++◌, IfSome, IfNone, OnOk, OnErr, [], ◌≤◌, slice_index};
+ghost use Rattle.vss_io.specs.Faults.{Rose};
+ghost use Rattle.vss_io.specs.Written.{PutsFront, PutsAllBut};
 
-use crate::number::number;
+use crate::number::{add_number, number};
 use sat_core::{ClauseId, Lit, Var};
+use vss_io::{LineBuf, Sink, SinkFault};
 
 // A word of a list, which is read with the blank behind it.
 pub(crate) trait Word: Sized + Drop {
@@ -16,6 +19,13 @@ pub(crate) trait Word: Sized + Drop {
     fn read(text: &[u8]) -> Option<(Self, &[u8])>
         ensures found { IfSome result (λ found. in_range found.0 × (text.now ≡ spelled found.0 ++ 32 ∷ found.1.now)) }
         ensures missing { IfNone result ((word : Self) (rest : List ℕ) → in_range word → text.now ≢ spelled word ++ 32 ∷ rest) };
+
+    // Adds the word and the blank behind it to a line.
+    fn add<K: Sink>(&self, text: &mut LineBuf, out: &mut K) -> Result<(), SinkFault>
+        ensures front { PutsFront (K.written out.old) (K.written out.new) (text.old ++ (spelled self.now ++ 32 ∷ [])) }
+        ensures added { OnOk result (PutsAllBut (K.written out.old) (K.written out.new) text.new (text.old ++ (spelled self.now ++ 32 ∷ []))) }
+        ensures never_falls { K.faults out.old ≤ K.faults out.new }
+        ensures cause { OnErr result (Rose (K.faults out.old) (K.faults out.new)) };
 
     // No word begins as the end of a list does, and no text begins with two words.
     ghost no_zero: { (word : Self) (rest : List ℕ) → in_range word → slice_index (spelled word ++ 32 ∷ rest) 0 ≢ 48 };
@@ -36,6 +46,10 @@ impl Word for ClauseId {
             Some((value, rest)) => Some((ClauseId(value), rest)),
             None => None,
         }
+    }
+
+    fn add<K: Sink>(&self, text: &mut LineBuf, out: &mut K) -> Result<(), SinkFault> {
+        add_number(self.0, text, out)
     }
 
     ghost no_zero = { number_no_zero };
@@ -62,6 +76,14 @@ impl Word for Lit {
                 None => None,
             },
         }
+    }
+
+    fn add<K: Sink>(&self, text: &mut LineBuf, out: &mut K) -> Result<(), SinkFault> {
+        if self.positive {
+            return add_number(self.var.0, text, out);
+        }
+        text.add(b"-", out)?;
+        add_number(self.var.0, text, out)
     }
 
     ghost no_zero = { literal_no_zero };
