@@ -1,0 +1,43 @@
+ghost use Rattle.std.specs.Prelude.{◌≡◌, ◌≢◌, ◌↔◌, IsTrue, Some, MatchOption, map, string_bytes, slice_get};
+ghost use Rattle.vssplan.specs.Words.{FileNames as Names, IsFileName, AskToJudge};
+ghost use Rattle.vssplan.specs.FileNames.{names_in};
+
+/// The names of the three files of a task.
+#[derive(Clone, Copy, Debug)]
+pub struct FileNames<'a> {
+    pub network: &'a str,
+    pub timetable: &'a str,
+    pub report: &'a str,
+}
+
+/// Whether the word can name a file.
+fn is_file_name(word: &str) -> bool
+    ensures { IsTrue result ↔ IsFileName word.now }
+{
+    word.as_bytes().first() != Some(&b'-')
+}
+
+/// The files of the task that the words ask for.
+pub fn files_of(words: &[String]) -> Option<FileNames<'_>>
+    ensures { MatchOption result ((names : Names) → ¬ AskToJudge (map string_bytes words.now) names)
+        (λ names. AskToJudge (map string_bytes words.now) (names_in names)) }
+{
+    let [task, network, timetable, report] = words else {
+        return None;
+    };
+    let network = network.as_str();
+    let timetable = timetable.as_str();
+    let report = report.as_str();
+    if task.as_str() == "judge"
+        && is_file_name(network)
+        && is_file_name(timetable)
+        && is_file_name(report)
+    {
+        return Some(FileNames {
+            network,
+            timetable,
+            report,
+        });
+    }
+    None
+}
