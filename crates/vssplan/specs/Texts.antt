@@ -49,7 +49,7 @@ breach_text labels (Stop train stop) = train_text labels (codes "stop") train st
 breach_text labels (Apart a b step e f) = apart_text labels a b step e f
 
 -- the line of an answer
-abbrev pub answer_text : Answer → List ℕ
+unfoldable pub answer_text : Answer → List ℕ
 answer_text answer.Usage = line (flat (usage_text ∷ []))
 answer_text (answer.ReadFault input) = line (flat (codes "read fault " ∷ input_word input ∷ []))
 answer_text (answer.Refused input refusal) = line (flat (codes "refused " ∷ input_word input ∷ codes " " ∷ refusal_word refusal ∷ codes " document 0" ∷ []))
