@@ -1,0 +1,4 @@
+//! The two documents of a question: a network of one track and a timetable of its trains.
+
+mod members;
+mod names;

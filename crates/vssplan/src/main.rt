@@ -1,0 +1,6 @@
+//! Designs layouts of virtual sub-sections for ETCS Hybrid Train Detection.
+#![tactic(auto)]
+
+mod documents;
+
+fn main() {}
