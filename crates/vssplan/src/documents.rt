@@ -2,3 +2,4 @@
 
 mod members;
 mod names;
+mod network;

@@ -1,7 +1,9 @@
-ghost use Rattle.std.specs.Prelude.{◌≡◌, ◌↔◌, IsTrue, map, option_map};
+ghost use Rattle.std.specs.Prelude.{◌≡◌, ◌↔◌, ℕ, List, IsTrue, MatchOption, map, option_map};
 ghost use Rattle.serde_json.specs.View.{view};
 ghost use Rattle.vssplan.specs.Members.{text_at, number_at, list_at, Lacks};
+ghost use Rattle.vssplan.specs.Network.{IsNamed};
 
+use super::names::is_name;
 use serde_json::Value;
 
 /// The text under a name.
@@ -35,4 +37,23 @@ pub fn lacks(value: &Value, name: &str) -> bool
     ensures { IsTrue result ↔ Lacks name.now (view value.now) }
 {
     value.get(name).is_none()
+}
+
+/// Whether the text under a name is this one.
+pub fn has_text(value: &Value, name: &str, text: &str) -> bool
+    ensures { IsTrue result ↔ (text_at name.now (view value.now) ≡ Some text.now) }
+{
+    match text_of(value, name) {
+        Some(found) => found == text,
+        None => false,
+    }
+}
+
+/// The name that the object has as its own.
+pub fn name_of(value: &Value) -> Option<&str>
+    ensures { MatchOption result ((name : List ℕ) → ¬ IsNamed (view value.now) name)
+        (λ name. IsNamed (view value.now) name.now) }
+{
+    let name = text_of(value, "name")?;
+    if is_name(name) { Some(name) } else { None }
 }

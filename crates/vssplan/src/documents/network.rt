@@ -1,0 +1,77 @@
+ghost use Rattle.std.specs.Prelude.{◌≡◌, ◌≢◌, ◌↔◌, ℕ, Bool, List, IsTrue, IfOk, MatchOption};
+ghost use Rattle.serde_json.specs.View.{view};
+ghost use Rattle.vssplan.specs.Network.{IsEndNode, HasTwoEnds, RunsBetween, IsTrackLength, HasOneTrack, HasOneSection, IsNetwork, IsLineNetwork};
+
+use super::members::{has_text, lacks, list_of, name_of, number_of};
+use serde_json::Value;
+use std::alloc::{AllocError, Global};
+use vss_lists::Text;
+
+const LONGEST_TRACK_M: u64 = 1_000_000;
+
+/// A network of one track between two end nodes.
+#[derive(Debug, Drop)]
+pub struct LineNetwork {
+    /// The names of the end nodes, in the document's order.
+    pub first: Text,
+    pub second: Text,
+    pub track: Text,
+    /// Whether the track runs from the second node to the first.
+    pub turned: bool,
+    /// From 1 to 1,000,000.
+    pub length_m: u64,
+}
+
+fn end_name(node: &Value) -> Option<&str>
+    ensures { MatchOption result ((name : List ℕ) → ¬ IsEndNode (view node.now) name)
+        (λ name. IsEndNode (view node.now) name.now) }
+{
+    let name = name_of(node)?;
+    if has_text(node, "kind", "end") {
+        Some(name)
+    } else {
+        None
+    }
+}
+
+fn two_ends(document: &Value) -> Option<(&str, &str)>
+    ensures { MatchOption result ((first second : List ℕ) → ¬ HasTwoEnds (view document.now) first second)
+        (λ ends. HasTwoEnds (view document.now) ends.0.now ends.1.now) }
+{
+    let [one, other] = list_of(document, "nodes")? else {
+        return None;
+    };
+    let first = end_name(one)?;
+    let second = end_name(other)?;
+    if first == second {
+        None
+    } else {
+        Some((first, second))
+    }
+}
+
+fn is_turned(track: &Value, first: &str, second: &str) -> Option<bool>
+    requires { first.now ≢ second.now }
+    ensures { MatchOption result ((turned : Bool) → ¬ RunsBetween (view track.now) first.now second.now turned)
+        (λ turned. RunsBetween (view track.now) first.now second.now turned) }
+{
+    if has_text(track, "from", first) && has_text(track, "to", second) {
+        Some(false)
+    } else if has_text(track, "from", second) && has_text(track, "to", first) {
+        Some(true)
+    } else {
+        None
+    }
+}
+
+fn track_length(track: &Value) -> Option<u64>
+    ensures { MatchOption result ((length_m : ℕ) → ¬ IsTrackLength (view track.now) length_m)
+        (λ length_m. IsTrackLength (view track.now) length_m) }
+{
+    let length_m = number_of(track, "length_m")?;
+    if 1 <= length_m && length_m <= LONGEST_TRACK_M {
+        Some(length_m)
+    } else {
+        None
+    }
+}
