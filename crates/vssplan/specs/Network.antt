@@ -1,6 +1,7 @@
 -- The network of one track: two end nodes, a track between them, and its section.
 use Rattle.std.specs.Prelude.{◌≡◌, ◌≢◌, ℕ, ◌≤◌, Bool, if◌then◌else◌, List, [], ◌∷◌, Some, codes}
-use Rattle.serde_json.specs.Data.{Data, string}
+use Rattle.serde_json.specs.Data.{Data}
+use Rattle.serde_json.specs.Find.{as_str}
 use Rattle.vssplan.specs.Names.{IsName}
 use Rattle.vssplan.specs.Members.{IsJson, text_at, number_at, list_at, Lacks}
 use Rattle.vssplan.specs.declared.documents.network.LineNetwork.{LineNetwork}
@@ -46,13 +47,15 @@ pub record HasOneTrack (d : Data) (n : LineNetwork) : Type 0 where
   pub no_limit : Lacks (codes "limit_kmh") track
   pub no_virtual : Lacks (codes "virtual") track
 
--- the only section has a name, and lists just the track of that name
+-- the only section has a name, and lists just this track
 pub record HasOneSection (d : Data) (track : List ℕ) : Type 0 where
   pub section : Data
   pub name : List ℕ
+  pub listed : Data
   pub one_section : list_at (codes "sections") d ≡ Some (section ∷ [])
   pub named : IsNamed section name
-  pub lists_track : list_at (codes "tracks") section ≡ Some (string track ∷ [])
+  pub lists_one : list_at (codes "tracks") section ≡ Some (listed ∷ [])
+  pub is_track : as_str listed ≡ Some track
 
 -- the document's value is this network
 pub record IsNetwork (d : Data) (n : LineNetwork) : Type 0 where

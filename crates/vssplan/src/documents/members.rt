@@ -1,10 +1,24 @@
-ghost use Rattle.std.specs.Prelude.{◌≡◌, ◌↔◌, ℕ, List, IsTrue, MatchOption, map, option_map};
+ghost use Rattle.std.specs.Prelude.{◌≡◌, ◌≢◌, ◌↔◌, ℕ, List, [], ◌∷◌, Some, IsTrue, IfOk, MatchOption, map, option_map};
+ghost use Rattle.serde_json.specs.Data.{Data};
 ghost use Rattle.serde_json.specs.View.{view};
-ghost use Rattle.vssplan.specs.Members.{text_at, number_at, list_at, Lacks};
+ghost use Rattle.vssplan.specs.Members.{IsJson, text_at, number_at, list_at, Lacks};
 ghost use Rattle.vssplan.specs.Network.{IsNamed};
 
 use super::names::is_name;
 use serde_json::Value;
+use std::alloc::{AllocError, Global};
+
+/// The JSON value that the bytes are the text of. Linear in the bytes.
+pub fn json_of(alloc: Global, bytes: &[u8]) -> Result<Option<Value>, AllocError>
+    ensures { IfOk result (λ found. MatchOption found ((d : Data) → ¬ IsJson bytes.now d)
+        (λ value. IsJson bytes.now (view value))) }
+{
+    match Value::from_slice(alloc, bytes) {
+        Ok(value) => Ok(Some(value)),
+        Err(fault) if fault.is_memory() => Err(AllocError),
+        Err(_) => Ok(None),
+    }
+}
 
 /// The text under a name.
 #[tactic(auto, unfolding(crate::specs::Members::text_at))]
@@ -29,6 +43,17 @@ pub fn list_of<'v>(value: &'v Value, name: &str) -> Option<&'v [Value]>
 {
     let list = value.get(name)?.as_array()?;
     Some(list.as_slice())
+}
+
+/// The item of a list of just one item, under a name.
+pub fn only_item<'v>(value: &'v Value, name: &str) -> Option<&'v Value>
+    ensures { MatchOption result ((item : Data) → list_at name.now (view value.now) ≢ Some (item ∷ []))
+        (λ item. list_at name.now (view value.now) ≡ Some (view item.now ∷ [])) }
+{
+    let [item] = list_of(value, name)? else {
+        return None;
+    };
+    Some(item)
 }
 
 /// Whether no member has that name.

@@ -2,7 +2,7 @@ ghost use Rattle.std.specs.Prelude.{◌≡◌, ◌≢◌, ◌↔◌, ℕ, Bool, 
 ghost use Rattle.serde_json.specs.View.{view};
 ghost use Rattle.vssplan.specs.Network.{IsEndNode, HasTwoEnds, RunsBetween, IsTrackLength, HasOneTrack, HasOneSection, IsNetwork, IsLineNetwork};
 
-use super::members::{has_text, lacks, list_of, name_of, number_of};
+use super::members::{has_text, lacks, list_of, name_of, number_of, only_item};
 use serde_json::Value;
 use std::alloc::{AllocError, Global};
 use vss_lists::Text;
@@ -74,4 +74,50 @@ fn track_length(track: &Value) -> Option<u64>
     } else {
         None
     }
+}
+
+/// What is said of the track, in texts of the document.
+struct LineTrack<'v> {
+    name: &'v str,
+    turned: bool,
+    length_m: u64,
+}
+
+fn line_track<'v>(document: &'v Value, first: &str, second: &str) -> Option<LineTrack<'v>>
+    requires { first.now ≢ second.now }
+    ensures { MatchOption result
+        ((n : LineNetwork) → n.first ≡ first.now → n.second ≡ second.now → ¬ HasOneTrack (view document.now) n)
+        (λ t. HasOneTrack (view document.now) (record {
+          first = first.now;
+          second = second.now;
+          track = t.name.now;
+          turned = t.turned;
+          length_m = t.length_m;
+        })) }
+{
+    let track = only_item(document, "tracks")?;
+    let name = name_of(track)?;
+    let turned = is_turned(track, first, second)?;
+    let length_m = track_length(track)?;
+    if lacks(track, "limit_kmh") && lacks(track, "virtual") {
+        Some(LineTrack {
+            name,
+            turned,
+            length_m,
+        })
+    } else {
+        None
+    }
+}
+
+fn has_one_section(document: &Value, track: &str) -> bool
+    ensures { IsTrue result ↔ HasOneSection (view document.now) track.now }
+{
+    let Some(section) = only_item(document, "sections") else {
+        return false;
+    };
+    let Some(listed) = only_item(section, "tracks") else {
+        return false;
+    };
+    name_of(section).is_some() && listed.as_str() == Some(track)
 }
