@@ -7,6 +7,7 @@ ghost use Rattle.vssplan.specs.Network.{IsNamed};
 use super::names::is_name;
 use serde_json::Value;
 use std::alloc::{AllocError, Global};
+use vss_lists::Text;
 
 /// The JSON value that the bytes are the text of. Linear in the bytes.
 pub fn json_of(alloc: Global, bytes: &[u8]) -> Result<Option<Value>, AllocError>
@@ -81,4 +82,11 @@ pub fn name_of(value: &Value) -> Option<&str>
 {
     let name = text_of(value, "name")?;
     if is_name(name) { Some(name) } else { None }
+}
+
+/// A text of one's own.
+pub fn text(alloc: Global, from: &str) -> Result<Text, AllocError>
+    ensures { IfOk result (λ copy. copy ≡ from.now) }
+{
+    Ok(Text::from_string(String::from_str(alloc, from)?))
 }

@@ -2,7 +2,7 @@ ghost use Rattle.std.specs.Prelude.{◌≡◌, ◌≢◌, ◌↔◌, ℕ, Bool, 
 ghost use Rattle.serde_json.specs.View.{view};
 ghost use Rattle.vssplan.specs.Network.{IsEndNode, HasTwoEnds, RunsBetween, IsTrackLength, HasOneTrack, HasOneSection, IsNetwork, IsLineNetwork};
 
-use super::members::{has_text, lacks, list_of, name_of, number_of, only_item};
+use super::members::{has_text, json_of, lacks, list_of, name_of, number_of, only_item, text};
 use serde_json::Value;
 use std::alloc::{AllocError, Global};
 use vss_lists::Text;
@@ -77,6 +77,7 @@ fn track_length(track: &Value) -> Option<u64>
 }
 
 /// What is said of the track, in texts of the document.
+#[derive(Drop)]
 struct LineTrack<'v> {
     name: &'v str,
     turned: bool,
@@ -120,4 +121,79 @@ fn has_one_section(document: &Value, track: &str) -> bool
         return false;
     };
     name_of(section).is_some() && listed.as_str() == Some(track)
+}
+
+/// What the document says of a network, in texts of the document.
+#[derive(Drop)]
+struct Line<'v> {
+    first: &'v str,
+    second: &'v str,
+    track: LineTrack<'v>,
+}
+
+fn line_of(document: &Value) -> Option<Line<'_>>
+    ensures { MatchOption result ((n : LineNetwork) → ¬ IsNetwork (view document.now) n)
+        (λ l. IsNetwork (view document.now) (record {
+          first = l.first.now;
+          second = l.second.now;
+          track = l.track.name.now;
+          turned = l.track.turned;
+          length_m = l.track.length_m;
+        })) }
+{
+    let Some((first, second)) = two_ends(document) else {
+        return None;
+    };
+    let Some(track) = line_track(document, first, second) else {
+        return None;
+    };
+    let has_rest = has_one_section(document, track.name);
+    if has_rest && lacks(document, "borders") && lacks(document, "stations") {
+        Some(Line {
+            first,
+            second,
+            track,
+        })
+    } else {
+        None
+    }
+}
+
+fn owned(alloc: Global, line: &Line<'_>) -> Result<LineNetwork, AllocError>
+    ensures { IfOk result (λ n. n ≡ record {
+      first = line.now.first.now;
+      second = line.now.second.now;
+      track = line.now.track.name.now;
+      turned = line.now.track.turned;
+      length_m = line.now.track.length_m;
+    }) }
+{
+    Ok(LineNetwork {
+        first: text(alloc, line.first)?,
+        second: text(alloc, line.second)?,
+        track: text(alloc, line.track.name)?,
+        turned: line.track.turned,
+        length_m: line.track.length_m,
+    })
+}
+
+fn network_of(alloc: Global, document: &Value) -> Result<Option<LineNetwork>, AllocError>
+    ensures { IfOk result (λ found. MatchOption found ((n : LineNetwork) → ¬ IsNetwork (view document.now) n)
+        (λ n. IsNetwork (view document.now) n)) }
+{
+    match line_of(document) {
+        Some(line) => Ok(Some(owned(alloc, &line)?)),
+        None => Ok(None),
+    }
+}
+
+/// The network of the document's bytes, where it is one of one track. Linear in the bytes.
+pub fn line_network(alloc: Global, bytes: &[u8]) -> Result<Option<LineNetwork>, AllocError>
+    ensures { IfOk result (λ found. MatchOption found ((n : LineNetwork) → ¬ IsLineNetwork bytes.now n)
+        (λ n. IsLineNetwork bytes.now n)) }
+{
+    match json_of(alloc, bytes)? {
+        Some(document) => network_of(alloc, &document),
+        None => Ok(None),
+    }
 }
