@@ -1,5 +1,5 @@
 -- Members: what an object of a document has under a name, as `serde_json` reads it.
-use Rattle.std.specs.Prelude.{◌≡◌, ℕ, List, [], ◌∷◌, Option, Some, None, option_map, option_and_then, IsUtf8}
+use Rattle.std.specs.Prelude.{◌≡◌, ℕ, ◌≤◌, List, [], ◌∷◌, Option, Some, None, option_map, option_and_then, IsUtf8}
 use Rattle.serde_json.specs.Data.{Data, Items, no_items, item}
 use Rattle.serde_json.specs.Read.{read}
 use Rattle.serde_json.specs.Find.{get, as_str, as_number, as_u64, as_array}
@@ -29,3 +29,15 @@ list_at name d = option_map list_of (option_and_then as_array (get name d))
 -- the object has no member of that name
 unfoldable pub Lacks : List ℕ → Data → Type 0
 Lacks name d = get name d ≡ None
+
+-- the object has this number under the name, and it is from low to high
+pub record HasNumber (d : Data) (name : List ℕ) (low high n : ℕ) : Type 0 where
+  pub says : number_at name d ≡ Some n
+  pub at_least : low ≤ n
+  pub at_most : n ≤ high
+
+-- the object has this number under the name, and it is at most high; without a number, it has no
+-- such member
+abbrev pub MayHaveNumber : Data → List ℕ → ℕ → Option ℕ → Type 0
+MayHaveNumber d name high None = Lacks name d
+MayHaveNumber d name high (Some n) = HasNumber d name 0 high n

@@ -1,9 +1,11 @@
 -- The network of one track: two end nodes, a track between them, and its section.
-use Rattle.std.specs.Prelude.{◌≡◌, ◌≢◌, ℕ, ◌≤◌, Bool, if◌then◌else◌, List, [], ◌∷◌, Some, codes}
+use Rattle.std.specs.Prelude.{◌≡◌, ◌≢◌, ℕ, Bool, if◌then◌else◌, List, [], ◌∷◌, Some, codes}
 use Rattle.serde_json.specs.Data.{Data}
 use Rattle.serde_json.specs.Find.{as_str}
+use Rattle.cell_net.specs.declared.cells.End.{End}
+use Rattle.cell_net.specs.declared.cells.End.TheVariants.{Low, High}
 use Rattle.vssplan.specs.Names.{IsName}
-use Rattle.vssplan.specs.Members.{IsJson, text_at, number_at, list_at, Lacks}
+use Rattle.vssplan.specs.Members.{IsJson, HasNumber, text_at, list_at, Lacks}
 use Rattle.vssplan.specs.declared.documents.network.LineNetwork.{LineNetwork}
 
 -- an object with this name
@@ -31,19 +33,13 @@ pub record RunsBetween (d : Data) (first second : List ℕ) (turned : Bool) : Ty
   pub from : text_at (codes "from") d ≡ Some (if turned then second else first)
   pub to : text_at (codes "to") d ≡ Some (if turned then first else second)
 
--- the track is so many metres long, from 1 to 1,000,000
-pub record IsTrackLength (d : Data) (length_m : ℕ) : Type 0 where
-  pub says : number_at (codes "length_m") d ≡ Some length_m
-  pub at_least_1 : 1 ≤ length_m
-  pub at_most : length_m ≤ 1000000
-
 -- the only track runs between the two nodes, and has no limit and no word on virtual borders
 pub record HasOneTrack (d : Data) (n : LineNetwork) : Type 0 where
   pub track : Data
   pub one_track : list_at (codes "tracks") d ≡ Some (track ∷ [])
   pub named : IsNamed track n.track
   pub runs : RunsBetween track n.first n.second n.turned
-  pub long : IsTrackLength track n.length_m
+  pub length_m : HasNumber track (codes "length_m") 1 1000000 n.length_m
   pub no_limit : Lacks (codes "limit_kmh") track
   pub no_virtual : Lacks (codes "virtual") track
 
@@ -64,6 +60,11 @@ pub record IsNetwork (d : Data) (n : LineNetwork) : Type 0 where
   pub one_section : HasOneSection d n.track
   pub no_borders : Lacks (codes "borders") d
   pub no_stations : Lacks (codes "stations") d
+
+-- the name of the node at an end of the track's cells: low is where the track runs from
+abbrev pub name_at : LineNetwork → End → List ℕ
+name_at n Low = if n.turned then n.second else n.first
+name_at n High = if n.turned then n.first else n.second
 
 -- the bytes are the document of this network
 pub record IsLineNetwork (bytes : List ℕ) (n : LineNetwork) : Type 0 where

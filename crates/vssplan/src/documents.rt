@@ -3,3 +3,4 @@
 mod members;
 mod names;
 mod network;
+mod timetable;

@@ -1,7 +1,7 @@
-ghost use Rattle.std.specs.Prelude.{◌≡◌, ◌≢◌, ◌↔◌, ℕ, List, [], ◌∷◌, Some, IsTrue, IfOk, MatchOption, map, option_map};
+ghost use Rattle.std.specs.Prelude.{◌≡◌, ◌≢◌, ◌↔◌, ℕ, List, [], ◌∷◌, Option, Some, IsTrue, IfOk, MatchOption, map, option_map};
 ghost use Rattle.serde_json.specs.Data.{Data};
 ghost use Rattle.serde_json.specs.View.{view};
-ghost use Rattle.vssplan.specs.Members.{IsJson, text_at, number_at, list_at, Lacks};
+ghost use Rattle.vssplan.specs.Members.{IsJson, HasNumber, MayHaveNumber, text_at, number_at, list_at, Lacks};
 ghost use Rattle.vssplan.specs.Network.{IsNamed};
 
 use super::names::is_name;
@@ -35,6 +35,32 @@ pub fn number_of(value: &Value, name: &str) -> Option<u64>
     ensures { result ≡ number_at name.now (view value.now) }
 {
     value.get(name).and_then(Value::as_u64)
+}
+
+/// The number under a name, from `low` to `high`.
+pub fn number_within(value: &Value, name: &str, low: u64, high: u64) -> Option<u64>
+    ensures { MatchOption result ((n : ℕ) → ¬ HasNumber (view value.now) name.now low high n)
+        (λ n. HasNumber (view value.now) name.now low high n) }
+{
+    let number = number_of(value, name)?;
+    if low <= number && number <= high {
+        Some(number)
+    } else {
+        None
+    }
+}
+
+/// The number under a name that may be missing, at most `high`.
+pub fn number_or_none(value: &Value, name: &str, high: u64) -> Option<Option<u64>>
+    ensures { MatchOption result ((n : Option ℕ) → ¬ MayHaveNumber (view value.now) name.now high n)
+        (λ n. MayHaveNumber (view value.now) name.now high n) }
+{
+    if lacks(value, name) {
+        Some(None)
+    } else {
+        let number = number_within(value, name, 0, high)?;
+        Some(Some(number))
+    }
 }
 
 /// The items of the list under a name.

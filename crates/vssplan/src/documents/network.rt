@@ -1,13 +1,14 @@
 ghost use Rattle.std.specs.Prelude.{◌≡◌, ◌≢◌, ◌↔◌, ℕ, Bool, List, IsTrue, IfOk, MatchOption};
 ghost use Rattle.serde_json.specs.View.{view};
-ghost use Rattle.vssplan.specs.Network.{IsEndNode, HasTwoEnds, RunsBetween, IsTrackLength, HasOneTrack, HasOneSection, IsNetwork, IsLineNetwork};
+ghost use Rattle.vssplan.specs.Network.{IsEndNode, HasTwoEnds, RunsBetween, HasOneTrack, HasOneSection, IsNetwork, IsLineNetwork};
 
-use super::members::{has_text, json_of, lacks, list_of, name_of, number_of, only_item, text};
+use super::members::{has_text, json_of, lacks, list_of, name_of, number_within, only_item, text};
 use serde_json::Value;
 use std::alloc::{AllocError, Global};
 use vss_lists::Text;
 
-const LONGEST_TRACK_M: u64 = 1_000_000;
+/// The greatest length of a track and of a train.
+pub const LONGEST_M: u64 = 1_000_000;
 
 /// A network of one track between two end nodes.
 #[derive(Debug, Drop)]
@@ -64,18 +65,6 @@ fn is_turned(track: &Value, first: &str, second: &str) -> Option<bool>
     }
 }
 
-fn track_length(track: &Value) -> Option<u64>
-    ensures { MatchOption result ((length_m : ℕ) → ¬ IsTrackLength (view track.now) length_m)
-        (λ length_m. IsTrackLength (view track.now) length_m) }
-{
-    let length_m = number_of(track, "length_m")?;
-    if 1 <= length_m && length_m <= LONGEST_TRACK_M {
-        Some(length_m)
-    } else {
-        None
-    }
-}
-
 /// What is said of the track, in texts of the document.
 #[derive(Drop)]
 struct LineTrack<'v> {
@@ -99,7 +88,7 @@ fn line_track<'v>(document: &'v Value, first: &str, second: &str) -> Option<Line
     let track = only_item(document, "tracks")?;
     let name = name_of(track)?;
     let turned = is_turned(track, first, second)?;
-    let length_m = track_length(track)?;
+    let length_m = number_within(track, "length_m", 1, LONGEST_M)?;
     if lacks(track, "limit_kmh") && lacks(track, "virtual") {
         Some(LineTrack {
             name,
