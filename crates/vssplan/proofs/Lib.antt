@@ -1,2 +1,5 @@
 pub mod MemberLemmas
 pub mod NetworkLemmas
+pub mod ZipLemmas
+pub mod NameLemmas
+pub mod TimetableLemmas

@@ -1,9 +1,9 @@
 -- What a document says of a network, it says of one alone.
-use Rattle.std.proofs.Common.{◌≡◌, ℕ, List, Option, Some, None, Result, Ok, Err, IfOk, MatchOption, sym, subst}
+use Rattle.std.proofs.Common.{◌≡◌, ℕ, List, Option, Some, None, Result, Ok, Err, IfOk, MatchOption, subst}
 use Rattle.std.specs.declared.alloc.AllocError.{AllocError}
 use Rattle.serde_json.specs.Data.{Data}
 use Rattle.vssplan.specs.Members.{IsJson}
-use Rattle.vssplan.specs.Network.{IsNamed, IsEndNode, HasTwoEnds, IsNetwork, IsLineNetwork}
+use Rattle.vssplan.specs.Network.{HasTwoEnds, IsNetwork, IsLineNetwork}
 use Rattle.vssplan.specs.declared.documents.network.LineNetwork.{LineNetwork}
 use Rattle.vssplan.proofs.MemberLemmas.{same_json}
 

@@ -5,8 +5,16 @@ use Rattle.serde_json.specs.Data.{Data}
 use Rattle.vssplan.specs.Members.{IsJson, HasNumber, MayHaveNumber, text_at, list_at, Lacks}
 use Rattle.vssplan.specs.Network.{IsNamed, name_at}
 use Rattle.vssplan.specs.declared.documents.network.LineNetwork.{LineNetwork}
+use Rattle.vssplan.specs.declared.documents.timetable.Grid.{Grid}
 use Rattle.vssplan.specs.declared.documents.timetable.LineTrain.{LineTrain}
 use Rattle.vssplan.specs.declared.documents.timetable.LineTimetable.{LineTimetable}
+
+-- the steps of space, from 1 to 100,000 metres, and of time, from 1 to 86,400 seconds, and a horizon
+-- of at least one step of time and at most 10,000,000 seconds
+pub record HasGrid (d : Data) (g : Grid) : Type 0 where
+  pub space_step_m : HasNumber d (codes "space_step_m") 1 100000 g.space_step_m
+  pub time_step_s : HasNumber d (codes "time_step_s") 1 86400 g.time_step_s
+  pub horizon_s : HasNumber d (codes "horizon_s") g.time_step_s 10000000 g.horizon_s
 
 -- a train between the network's nodes, without stops, reversals and an entry window: its length from
 -- 1 to 1,000,000 metres, its speed from 1 to 500 km/h, and its times at most 10,000,000 seconds
@@ -30,12 +38,9 @@ pub record HasTrains (n : LineNetwork) (d : Data) (names : List (List ℕ)) (tra
   pub different : AllPairs (λ name later. name ≢ later) names
   pub each : AllZip (IsTrain n) items trains
 
--- the document's value is this timetable: the steps of space and time in metres and seconds, a
--- horizon of at least one step of time, and the trains
+-- the document's value is this timetable
 pub record IsTimetable (n : LineNetwork) (d : Data) (t : LineTimetable) : Type 0 where
-  pub space_step_m : HasNumber d (codes "space_step_m") 1 100000 t.space_step_m
-  pub time_step_s : HasNumber d (codes "time_step_s") 1 86400 t.time_step_s
-  pub horizon_s : HasNumber d (codes "horizon_s") t.time_step_s 10000000 t.horizon_s
+  pub grid : HasGrid d t.grid
   pub trains : HasTrains n d t.names t.trains
 
 -- the bytes are the document of this timetable
