@@ -2,4 +2,5 @@ pub mod MemberLemmas
 pub mod NetworkLemmas
 pub mod ZipLemmas
 pub mod NameLemmas
+pub mod TrainLemmas
 pub mod TimetableLemmas

@@ -1,4 +1,6 @@
 pub mod Names
 pub mod Members
 pub mod Network
+pub mod Grid
+pub mod Trains
 pub mod Timetable

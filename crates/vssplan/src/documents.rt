@@ -1,6 +1,8 @@
 //! The two documents of a question: a network of one track and a timetable of its trains.
 
+mod grid;
 mod members;
 mod names;
 mod network;
 mod timetable;
+mod trains;
