@@ -1,16 +1,26 @@
 -- Borders: the layouts of virtual borders, and the cells that are linked or separated under one.
-use Rattle.std.specs.Prelude.{◌≡◌, ◌<◌, ◌⊎◌, ℕ, List, [], ◌∷◌, length, All, Any, Some, slice_get, Contains}
-use Rattle.std.specs.List.{AllAdjacentBelow}
+use Rattle.std.specs.Prelude.{◌≡◌, ◌<◌, ◌+◌, ◌⊎◌, ℕ, List, length, All, Any, Some, slice_get, Contains}
+use Rattle.vss_lists.specs.Breaks.{HoldsOfEach}
+use Rattle.node_groups.specs.Reach.{Reaches}
 use Rattle.cell_net.specs.declared.ids.CellId.{CellId}
 use Rattle.cell_net.specs.declared.ids.NodeId.{NodeId}
 use Rattle.cell_net.specs.declared.ids.CandidateId.{CandidateId}
 use Rattle.cell_net.specs.declared.cells.CellSpec.{CellSpec}
 use Rattle.cell_net.specs.declared.parts.InstanceParts.{InstanceParts}
 
+-- what stands before the place, if anything, is below this candidate
+abbrev pub RisesAt : List CandidateId → ℕ → CandidateId → Type 0
+RisesAt candidates place this =
+    (before : ℕ) (b : CandidateId) → before + 1 ≡ place → slice_get candidates before ≡ Some b → b.0 < this.0
+
+-- the instance has the candidate
+abbrev pub IsCandidate : InstanceParts → ℕ → CandidateId → Type 0
+IsCandidate p place b = b.0 < length p.candidates
+
 -- a border set: candidates of the instance, rising
 pub record IsBorderSet (p : InstanceParts) (borders : List CandidateId) : Type 0 where
-  pub rising : AllAdjacentBelow (λ b c. b.0 < c.0) borders (length borders)
-  pub in_range : All (λ b. b.0 < length p.candidates) borders
+  pub rising : HoldsOfEach (RisesAt borders) borders
+  pub in_range : HoldsOfEach (IsCandidate p) borders
 
 -- a layout: a border set that holds every kept candidate; its count is its length
 pub record IsLayout (p : InstanceParts) (borders : List CandidateId) : Type 0 where
@@ -37,12 +47,7 @@ pub record Meet (p : InstanceParts) (borders : List CandidateId) (e f : CellId) 
   pub at_other : IsAtEnd other node
   pub free : ¬ IsBorder p borders node
 
--- from e over the listed cells to f, each meeting the next
-abbrev pub LeadsTo : InstanceParts → List CandidateId → CellId → List CellId → CellId → Type 0
-LeadsTo p borders e [] f = e ≡ f
-LeadsTo p borders e (c ∷ cs) f = Meet p borders e c × LeadsTo p borders c cs f
-
--- linked: some list of cells of one section leads from e to f, in which neighbours share a node
--- that isn't a border; the list of one cell links it with itself. Separated means not linked.
-unfoldable pub Linked : InstanceParts → List CandidateId → CellId → CellId → Type 0
-Linked p borders e f = (cells : List CellId) × LeadsTo p borders e cells f
+-- linked: some list of cells leads from e to f, each sharing a node that isn't a border with the one
+-- before it, in one section; the list of one cell links it with itself. Separated means not linked.
+abbrev pub Linked : InstanceParts → List CandidateId → CellId → CellId → Type 0
+Linked p borders = Reaches (Meet p borders)

@@ -1,3 +1,6 @@
+ghost use Rattle.std.specs.Prelude.{◌≡◌, ◌↔◌, IsTrue};
+ghost use Rattle.cell_net.specs.Space.{head_of, opposite, tail_of};
+
 use super::ids::{CellId, NodeId, SectionId};
 
 /// One of the two ends of a cell.
@@ -36,4 +39,39 @@ pub struct CellSpec {
 pub struct JoinSpec {
     pub one: CellEnd,
     pub other: CellEnd,
+}
+
+pub(crate) fn is_same_end(one: CellEnd, other: CellEnd) -> bool
+    ensures { IsTrue result ↔ (one ≡ other) }
+{
+    one == other
+}
+
+/// The end that a directed cell heads to.
+pub(crate) fn head_of(directed: DirCell) -> CellEnd
+    ensures { result ≡ head_of directed }
+{
+    CellEnd {
+        cell: directed.cell,
+        end: directed.end,
+    }
+}
+
+/// The end that it doesn't head to.
+pub(crate) fn tail_of(directed: DirCell) -> CellEnd
+    ensures { result ≡ tail_of directed }
+{
+    CellEnd {
+        cell: directed.cell,
+        end: opposite(directed.end),
+    }
+}
+
+fn opposite(end: End) -> End
+    ensures { result ≡ opposite end }
+{
+    match end {
+        End::Low => End::High,
+        End::High => End::Low,
+    }
 }

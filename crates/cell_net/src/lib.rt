@@ -3,16 +3,26 @@
 //! plans are the definitions in `specs/`, on which everything above stands.
 #![tactic(auto)]
 
+mod build;
 mod cells;
 mod ids;
+mod instance;
 mod labels;
+mod layout;
 mod parts;
+mod passages;
 mod plans;
+mod rules;
+mod scene;
 mod trains;
 
+pub use build::BuildRefusal;
 pub use cells::{CellEnd, CellSpec, DirCell, End, JoinSpec};
 pub use ids::{CandidateId, CellId, NodeId, SectionId, StationId, TrainId};
+pub use instance::Instance;
 pub use labels::{CellLabel, Labels, PlaceLabel};
+pub use layout::{Layout, LayoutRefusal};
 pub use parts::InstanceParts;
 pub use plans::{Plan, Sweep, TrainRun};
+pub use scene::Scene;
 pub use trains::{StopSpec, TrainSpec};

@@ -6,8 +6,8 @@ abbrev pub HoldsBelow : {X : Type 0} → (ℕ → X → Type 0) → List X → �
 HoldsBelow {X} holds items place = (k : ℕ) (item : X) → k < place → slice_get items k ≡ Some item → holds k item
 
 -- the rule holds of each item
-abbrev pub HoldsOfEach : {X : Type 0} → (ℕ → X → Type 0) → List X → Type 0
-HoldsOfEach {X} holds items = (k : ℕ) (item : X) → slice_get items k ≡ Some item → holds k item
+pub record HoldsOfEach {X : Type 0} (holds : ℕ → X → Type 0) (items : List X) : Type 0 where
+  pub at_each : (k : ℕ) (item : X) → slice_get items k ≡ Some item → holds k item
 
 -- the rule holds of each item before the place and not of the item there
 pub record BreaksFirstAt {X : Type 0} (holds : ℕ → X → Type 0) (items : List X) (place : ℕ) : Type 0 where

@@ -1,0 +1,24 @@
+use Rattle.std.proofs.Common.{arith, take, length, ◌≡◌, ◌≤◌}
+use Rattle.std.proofs.lemmas.List.{take_more, take_all}
+use Rattle.cell_net.specs.declared.cells.End.TheVariants.{Low}
+use Rattle.cell_net.specs.declared.cells.CellEnd.{CellEnd}
+use Rattle.cell_net.specs.declared.cells.JoinSpec.{JoinSpec}
+use Rattle.cell_net.proofs.PassageLemmas.{both_push}
+use Rattle.cell_net.proofs.passages.both_ways.Goals as goal
+
+-- what a read past the end would give
+some_end : CellEnd
+some_end = record { cell = record { 0 = 0 }; end = Low }
+
+pub loop-join-preserved : goal.loop-join-preserved
+unfolding some_end
+loop-join-preserved c =
+    let first = c.in_ok-push.ensures.items in
+    let second = c.in_ok-push-2.ensures.items in
+    let d : JoinSpec = record { one = some_end; other = some_end } in
+    let more = take_more c.args.joins.now c.loop-join.join-index d (omega arith) in
+    rw (second, first, c.passage_of.ensures, c.passage_of-in-loop-join.ensures, more) (both_push _ _ _ c.loop-join.invariant)
+
+pub returns : goal.returns
+returns c = let all : take c.loop-join.join-index c.args.joins.now ≡ c.args.joins.now = take_all c.loop-join.join-index c.args.joins.now (omega arith) in
+    rw all at c.loop-join.invariant

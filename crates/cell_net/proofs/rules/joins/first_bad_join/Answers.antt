@@ -1,0 +1,4 @@
+use Rattle.cell_net.proofs.rules.joins.first_bad_join.Goals as goal
+
+pub returns : goal.returns
+returns c = let found = c.first_break.ensures in rw c.as_slice.ensures at found

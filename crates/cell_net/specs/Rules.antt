@@ -1,0 +1,89 @@
+-- The rules that the parts of an instance keep, and which of them a refusal says is broken.
+use Rattle.std.specs.Prelude.{◌≡◌, ◌≢◌, ◌<◌, ◌≤◌, ◌+◌, ℕ, List, length, All, Some, slice_get}
+use Rattle.vss_lists.specs.Breaks.{HoldsOfEach, BreaksFirstAt}
+use Rattle.cell_net.specs.Space.{IsCell}
+use Rattle.cell_net.specs.Borders.{RisesAt}
+use Rattle.cell_net.specs.declared.ids.CandidateId.{CandidateId}
+use Rattle.cell_net.specs.declared.ids.CellId.{CellId}
+use Rattle.cell_net.specs.declared.ids.NodeId.{NodeId}
+use Rattle.cell_net.specs.declared.cells.End.{End}
+use Rattle.cell_net.specs.declared.cells.End.TheVariants.{Low, High}
+use Rattle.cell_net.specs.declared.cells.CellEnd.{CellEnd}
+use Rattle.cell_net.specs.declared.cells.CellSpec.{CellSpec}
+use Rattle.cell_net.specs.declared.cells.JoinSpec.{JoinSpec}
+use Rattle.cell_net.specs.declared.trains.StopSpec.{StopSpec}
+use Rattle.cell_net.specs.declared.trains.TrainSpec.{TrainSpec}
+use Rattle.cell_net.specs.declared.parts.InstanceParts.{InstanceParts}
+
+-- there are 1 to 400 time steps
+pub record HasGoodSteps (p : InstanceParts) : Type 0 where
+  pub some : 0 < p.steps
+  pub few : p.steps ≤ 400
+
+-- one of the first 1,000 cells, between two different nodes, in a section, with a limit of 1 to 20
+pub record IsGoodCell (p : InstanceParts) (place : ℕ) (c : CellSpec) : Type 0 where
+  pub few : place < 1000
+  pub low : c.low.0 < p.nodes
+  pub high : c.high.0 < p.nodes
+  pub section : c.section.0 < p.sections
+  pub two_nodes : c.low ≢ c.high
+  pub moves : 0 < c.limit
+  pub limited : c.limit ≤ 20
+
+-- the node at an end of a cell
+abbrev pub node_at : CellSpec → End → NodeId
+node_at c Low = c.low
+node_at c High = c.high
+
+-- the end is one of a cell of the instance, and this is its node
+unfoldable pub IsNodeOf : InstanceParts → CellEnd → NodeId → Type 0
+IsNodeOf p e n = (c : CellSpec) × (slice_get p.cells e.cell.0 ≡ Some c) × (node_at c e.end ≡ n)
+
+-- a join is between two different ends of cells at one node
+pub record IsGoodJoin (p : InstanceParts) (place : ℕ) (j : JoinSpec) : Type 0 where
+  pub two_ends : j.one ≢ j.other
+  pub node : NodeId
+  pub at_one : IsNodeOf p j.one node
+  pub at_other : IsNodeOf p j.other node
+
+-- the kept candidates rise and are candidates
+pub record IsGoodKept (p : InstanceParts) (place : ℕ) (k : CandidateId) : Type 0 where
+  pub rises : RisesAt p.kept place k
+  pub in_range : k.0 < length p.candidates
+
+-- a station has at least one cell, and cells of the instance alone
+pub record IsGoodStation (p : InstanceParts) (place : ℕ) (cells : List CellId) : Type 0 where
+  pub some : 0 < length cells
+  pub in_range : All (IsCell p) cells
+
+-- a stop is at a station of the instance, for at least one step, and its window is wide enough
+pub record IsGoodStop (p : InstanceParts) (s : StopSpec) : Type 0 where
+  pub station : s.station.0 < length p.stations
+  pub stands : 0 < s.dwell
+  pub fits : s.from + s.dwell ≤ s.until
+
+-- one of the first 32 trains, of 1 to 64 cells, that advances 1 to 20 cells in a step, between two
+-- cells of the instance, in time, with good stops
+pub record IsGoodTrain (p : InstanceParts) (place : ℕ) (t : TrainSpec) : Type 0 where
+  pub few : place < 32
+  pub long : 0 < t.length
+  pub short : t.length ≤ 64
+  pub moves : 0 < t.advance
+  pub limited : t.advance ≤ 20
+  pub entry : IsCell p t.entry.cell
+  pub goal : IsCell p t.goal.cell
+  pub in_order : t.start ≤ t.by
+  pub in_time : t.by < p.steps
+  pub stops : All (IsGoodStop p) t.stops
+
+-- the parts keep every rule
+pub record IsInstance (p : InstanceParts) : Type 0 where
+  pub steps : HasGoodSteps p
+  pub cells : HoldsOfEach (IsGoodCell p) p.cells
+  pub joins : HoldsOfEach (IsGoodJoin p) p.joins
+  pub kept : HoldsOfEach (IsGoodKept p) p.kept
+  pub stations : HoldsOfEach (IsGoodStation p) p.stations
+  pub trains : HoldsOfEach (IsGoodTrain p) p.trains
+  pub few_cells : length p.cells ≤ 1000
+  pub few_candidates : length p.candidates ≤ 512
+  pub few_trains : length p.trains ≤ 32

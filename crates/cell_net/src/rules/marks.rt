@@ -1,0 +1,72 @@
+ghost use Rattle.std.specs.Prelude.{◌↔◌, All, IsTrue, ◌<◌, ◌^◌, length, MatchOption};
+ghost use Rattle.vss_lists.specs.Breaks.{HoldsOfEach, BreaksFirstAt};
+ghost use Rattle.cell_net.specs.Space.{IsCell};
+ghost use Rattle.cell_net.specs.Borders.{RisesAt};
+ghost use Rattle.cell_net.specs.Rules.{IsGoodKept, IsGoodStation};
+
+use super::cells::is_cell;
+use crate::ids::{CandidateId, CellId};
+use crate::parts::InstanceParts;
+use vss_lists::{Items, Rule, first_break};
+
+/// The place of the first kept candidate that breaks its rule.
+pub(crate) fn first_bad_kept(parts: &InstanceParts) -> Option<u32>
+    requires { length parts.now.kept < 2 ^ 32 }
+    ensures { MatchOption result (HoldsOfEach (IsGoodKept parts.now) parts.now.kept) (BreaksFirstAt (IsGoodKept parts.now) parts.now.kept) }
+{
+    first_break(&KeptRule { parts }, parts.kept.as_slice())
+}
+
+#[derive(Clone, Copy)]
+struct KeptRule<'a> {
+    parts: &'a InstanceParts,
+}
+
+impl<'a> Rule<CandidateId> for KeptRule<'a> {
+    ghost holds = { λ r place kept. IsGoodKept r.parts.now place kept };
+
+    fn holds(&self, place: u32, kept: &CandidateId) -> bool {
+        rises_at(self.parts.kept.as_slice(), place, *kept)
+            && (kept.0 as usize) < self.parts.candidates.len()
+    }
+}
+
+/// Whether what stands before the place, if anything, is below this candidate.
+pub(super) fn rises_at(candidates: &[CandidateId], place: u32, this: CandidateId) -> bool
+    ensures { IsTrue result ↔ RisesAt candidates.now place this }
+{
+    match place.checked_sub(1) {
+        Some(before) => match candidates.get(before as usize) {
+            Some(candidate) => candidate.0 < this.0,
+            None => true,
+        },
+        None => true,
+    }
+}
+
+/// The place of the first station that breaks its rule.
+pub(crate) fn first_bad_station(parts: &InstanceParts) -> Option<u32>
+    requires { length parts.now.stations < 2 ^ 32 }
+    ensures { MatchOption result (HoldsOfEach (IsGoodStation parts.now) parts.now.stations) (BreaksFirstAt (IsGoodStation parts.now) parts.now.stations) }
+{
+    first_break(&StationRule { parts }, parts.stations.as_slice())
+}
+
+#[derive(Clone, Copy)]
+struct StationRule<'a> {
+    parts: &'a InstanceParts,
+}
+
+impl<'a> Rule<Items<CellId>> for StationRule<'a> {
+    ghost holds = { λ r place station. IsGoodStation r.parts.now place station };
+
+    fn holds(&self, _place: u32, station: &Items<CellId>) -> bool {
+        !station.is_empty() && are_cells(self.parts, station.as_slice())
+    }
+}
+
+fn are_cells(parts: &InstanceParts, cells: &[CellId]) -> bool
+    ensures { IsTrue result ↔ All (IsCell parts.now) cells.now }
+{
+    cells.iter().all(|cell| is_cell(parts, *cell))
+}

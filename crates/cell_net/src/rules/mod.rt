@@ -1,0 +1,13 @@
+//! The rules that the parts of an instance keep, each as a test of one item at its place.
+
+mod borders;
+mod cells;
+mod joins;
+mod marks;
+mod trains;
+
+pub(crate) use borders::{first_not_rising, first_out_of_range};
+pub(crate) use cells::first_bad_cell;
+pub(crate) use joins::first_bad_join;
+pub(crate) use marks::{first_bad_kept, first_bad_station};
+pub(crate) use trains::first_bad_train;

@@ -1,0 +1,96 @@
+-- Ends in order, and which ends a list of segments has
+use Rattle.std.proofs.Common.{◌≡◌, ℕ, zero, suc, ◌+◌, ◌<◌, ◌≤◌, ◌⊎◌, false, List, [], ◌∷◌, Some, Contains, length, get_or, refl, sym, ◌∙◌, subst, inl, inr, arith, add-one, add-zero}
+use Rattle.std.specs.declared.cmp.Ordering.{Ordering}
+use Rattle.std.specs.Ordering.{MatchOrdering, ordering_then, is_lt, nat_cmp}
+use Rattle.std.specs.declared.cmp.Ordering.TheVariants.{Less, Equal, Greater}
+use Rattle.std.specs.List.{AllAdjacentBelow, AllByRecursion, slice_get}
+use Rattle.std.specs.List.Sorted.{IsSorted}
+use Rattle.std.proofs.lemmas.Cmp.{ranked}
+use Rattle.std.proofs.lemmas.Bool.{cases_eq}
+use Rattle.node_groups.specs.declared.segments.Segment.{Segment}
+use Rattle.node_groups.specs.declared.ends.End.{End}
+use Rattle.node_groups.specs.Touch.{HasEnd}
+use Rattle.node_groups.specs.Ends.{end_at, ends_from, UpTo, IsInOrder, MeetAt}
+
+up_to_by_cases : (a b x y : ℕ) (o n p : Ordering) → MatchOrdering o (a < b) (a ≡ b) (b < a) → MatchOrdering n (x < y) (x ≡ y) (y < x) → is_lt (ordering_then o (ordering_then n p)) ≡ false → (b < a) ⊎ ((b ≡ a) × (y ≤ x))
+up_to_by_cases a b x y Less n p h k is = cc
+up_to_by_cases a b x y Greater n p h k is = inl h
+up_to_by_cases a b x y Equal Less p h k is = cc
+up_to_by_cases a b x y Equal Equal p h k is = inr (sym h, omega arith)
+up_to_by_cases a b x y Equal Greater p h k is = inr (sym h, omega arith)
+
+-- from what a sort of the ends says of neighbours
+up_to_from_cmp : (e f : End) → is_lt (ordering_then (nat_cmp f.part e.part) (ordering_then (nat_cmp f.node e.node) (nat_cmp f.place e.place))) ≡ false → UpTo e f
+up_to_from_cmp e f is = up_to_by_cases f.part e.part f.node e.node _ _ _ (ranked f.part e.part _ refl) (ranked f.node e.node _ refl) is
+
+-- what a sort of the ends ensures
+pub IsInOrder_from_sort : (ends : List End) → IsSorted (λ e f. ordering_then (nat_cmp e.part f.part) (ordering_then (nat_cmp e.node f.node) (nat_cmp e.place f.place))) ends → IsInOrder ends
+unfolding IsInOrder
+IsInOrder_from_sort ends sorted k d below = up_to_from_cmp (get_or ends k d) (get_or ends (k + 1) d) (sorted k d (omega arith) below)
+
+UpTo-trans : (e f g : End) → UpTo e f → UpTo f g → UpTo e g
+UpTo-trans e f g (inl h) (inl k) = inl (omega arith)
+UpTo-trans e f g (inl h) (inr (k, l)) = inl (omega arith)
+UpTo-trans e f g (inr (h, m)) (inl k) = inl (omega arith)
+UpTo-trans e f g (inr (h, m)) (inr (k, l)) = inr (h ∙ k, omega arith)
+
+-- each end is up to every later one
+pub up_to_far : (ends : List End) → IsInOrder ends → (i j : ℕ) (d : End) → i ≤ j → j < length ends → UpTo (get_or ends i d) (get_or ends j d)
+unfolding IsInOrder
+up_to_far ends order i zero d le lt = let e : i ≡ zero = omega arith in rw e (inr (refl, omega arith))
+up_to_far ends order i (suc j) d le lt = elim (cases_eq i (suc j)) [
+  | inl same ↦ rw same (inr (refl, omega arith))
+  | inr other ↦
+      let step : UpTo (get_or ends j d) (get_or ends (suc j) d) = subst (λ n. UpTo (get_or ends j d) (get_or ends n d)) (add-one j) (order j d (omega arith)) in
+      UpTo-trans (get_or ends i d) (get_or ends j d) (get_or ends (suc j) d) (up_to_far ends order i j d (omega arith) (omega arith)) step
+]
+
+-- what stands between two ends at one node stands at that node
+between_same : (e f g : End) → UpTo e f → UpTo f g → e.part ≡ g.part → e.node ≡ g.node → (e.part ≡ f.part) × (e.node ≡ f.node)
+between_same e f g (inl h) (inl k) p n = absurd (omega arith)
+between_same e f g (inl h) (inr (k, l)) p n = absurd (omega arith)
+between_same e f g (inr (h, m)) (inl k) p n = absurd (omega arith)
+between_same e f g (inr (h, m)) (inr (k, l)) p n = (h, omega arith)
+
+-- a relation that joins neighbours that meet joins all that meet
+pub meet_far : (barriers : List ℕ) (R : ℕ → ℕ → Type 0) → ((i : ℕ) → R i i) → ((i j k : ℕ) → R i j → R j k → R i k) → (ends : List End) → IsInOrder ends → AllAdjacentBelow (λ e f. MeetAt barriers e f → R e.place f.place) ends (length ends) → (i j : ℕ) (d : End) → i ≤ j → j < length ends → MeetAt barriers (get_or ends i d) (get_or ends j d) → R (get_or ends i d).place (get_or ends j d).place
+meet_far barriers R itself joins ends order near i zero d le lt meet = let e : i ≡ zero = omega arith in rw e (itself (get_or ends zero d).place)
+meet_far barriers R itself joins ends order near i (suc j) d le lt meet = elim (cases_eq i (suc j)) [
+  | inl same ↦ rw same (itself (get_or ends (suc j) d).place)
+  | inr other ↦
+      let next : UpTo (get_or ends j d) (get_or ends (suc j) d) = up_to_far ends order j (suc j) d (omega arith) lt in
+      let so_far : UpTo (get_or ends i d) (get_or ends j d) = up_to_far ends order i j d (omega arith) (omega arith) in
+      let between = between_same (get_or ends i d) (get_or ends j d) (get_or ends (suc j) d) so_far next meet.same_part meet.same_node in
+      let first : MeetAt barriers (get_or ends i d) (get_or ends j d) = record { same_part = between.0; same_node = between.1; no_barrier = meet.no_barrier } in
+      let second : MeetAt barriers (get_or ends j d) (get_or ends (suc j) d) =
+      record { same_part = sym between.0 ∙ meet.same_part; same_node = sym between.1 ∙ meet.same_node; no_barrier = λ at. meet.no_barrier (rw between.1 at) } in
+      joins _ _ _ (meet_far barriers R itself joins ends order near i j d (omega arith) (omega arith) first)
+      (subst (λ n. MeetAt barriers (get_or ends j d) (get_or ends n d) → R (get_or ends j d).place (get_or ends n d).place) (add-one j) (near j d (omega arith)) second)
+]
+
+-- a fact of every end that a segment of the list has holds of all ends
+pub ends_all : (Q : End → Type 0) (first : ℕ) (xs : List Segment) → ((k : ℕ) (s : Segment) (node : ℕ) → slice_get xs k ≡ Some s → HasEnd s node → Q (end_at s.part node (first + k))) → AllByRecursion Q (ends_from first xs)
+ends_all Q first [] all = tt
+ends_all Q first (s ∷ rest) all = (
+  rw add-zero at (all 0 s s.low refl (inl refl)),
+  (
+    rw add-zero at (all 0 s s.high refl (inr refl)),
+    ends_all Q (first + 1) rest (λ k t node is at_end.
+        let e : first + suc k ≡ first + 1 + k = omega arith in rw e at (all (suc k) t node is at_end)),
+  ),
+)
+
+contains_later : (x e : End) (xs : List End) → Contains xs e → Contains (x ∷ xs) e
+contains_later x e xs (k, below, is) = (suc k, omega arith, is)
+
+-- each end of each segment is among the ends
+pub ends_contain : (first : ℕ) (xs : List Segment) (k : ℕ) (s : Segment) (node : ℕ) → slice_get xs k ≡ Some s → HasEnd s node → Contains (ends_from first xs) (end_at s.part node (first + k))
+ends_contain first [] k s node is at_end = cc
+ends_contain first (x ∷ rest) zero s node is (inl low) =
+    let e : x ≡ s = cc in rw (← low, ← e, add-zero) (0, omega arith, refl)
+ends_contain first (x ∷ rest) zero s node is (inr high) =
+    let e : x ≡ s = cc in rw (← high, ← e, add-zero) (1, omega arith, refl)
+ends_contain first (x ∷ rest) (suc k) s node is at_end =
+    let e : first + suc k ≡ first + 1 + k = omega arith in
+    rw e (contains_later (end_at x.part x.low first) (end_at s.part node (first + 1 + k)) (end_at x.part x.high first ∷ ends_from (first + 1) rest)
+    (contains_later (end_at x.part x.high first) (end_at s.part node (first + 1 + k)) (ends_from (first + 1) rest) (ends_contain (first + 1) rest k s node is at_end)))

@@ -1,0 +1,6 @@
+use Rattle.std.proofs.Common.{◌≡◌, length}
+use Rattle.node_groups.specs.Forest.{AreAllRoots}
+use Rattle.node_groups.proofs.forest.single_trees.Given as goal
+
+abbrev pub invariant-loop-item : goal.invariant-loop-item
+invariant-loop-item l = record { len : length l.parents.items ≡ l.item; roots : AreAllRoots l.parents.items }

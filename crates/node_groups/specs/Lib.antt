@@ -1,0 +1,5 @@
+pub mod Reach
+pub mod Touch
+pub mod Forest
+pub mod Ends
+pub mod Groups

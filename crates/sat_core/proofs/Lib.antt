@@ -1,0 +1,4 @@
+pub mod LiteralLemmas
+pub mod SoundnessLemmas
+pub mod StorageLemmas
+pub mod ClauseLemmas

@@ -1,0 +1,5 @@
+pub mod Clauses
+pub mod Derivation
+pub mod Hints
+pub mod LiteralLaws
+pub mod Storage
