@@ -4,3 +4,4 @@ pub mod ZipLemmas
 pub mod NameLemmas
 pub mod TrainLemmas
 pub mod TimetableLemmas
+pub mod RowLemmas

@@ -4,3 +4,4 @@ pub mod Network
 pub mod Grid
 pub mod Trains
 pub mod Timetable
+pub mod Scene

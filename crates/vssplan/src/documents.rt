@@ -4,5 +4,6 @@ mod grid;
 mod members;
 mod names;
 mod network;
+mod scene;
 mod timetable;
 mod trains;
