@@ -5,3 +5,4 @@ pub mod NameLemmas
 pub mod TrainLemmas
 pub mod TimetableLemmas
 pub mod RowLemmas
+pub mod SceneLemmas

@@ -1,170 +1,73 @@
-ghost use Rattle.std.specs.Prelude.{◌≡◌, ◌≤◌, ◌<◌, [], ◌∷◌, map, IfOk};
-ghost use Rattle.std.specs.List.{range_with_len};
+ghost use Rattle.std.specs.Prelude.{◌≡◌, ◌⊎◌, ◌<◌, ◌^◌, length, IfOk, IfErr, MatchOption};
+ghost use Rattle.cell_net.specs.Labelled.{AreLabelsOf};
+ghost use Rattle.cell_net.specs.Refusals.{IsRefusal};
 ghost use Rattle.vssplan.specs.Grid.{IsGrid, IsCoarse};
-ghost use Rattle.vssplan.specs.Scene.{cell_at as cell_of_track, join_at as join_of_cut, candidate_at as candidate_of_cut, cell_label as label_of_cell, cut_label as label_of_cut, node_before as node_of_track, parts_of, labels_of};
+ghost use Rattle.vssplan.specs.Timetable.{IsLineTimetable};
+ghost use Rattle.vssplan.specs.Scene.{IsTimetableScene, parts_of, labels_of};
 
-use super::grid::{Grid, cell_count, step_count};
+use super::labels::line_labels;
 use super::network::LineNetwork;
-use cell_net::{
-    CellEnd, CellId, CellLabel, CellSpec, End, InstanceParts, JoinSpec, Labels, NodeId, PlaceLabel,
-    SectionId, TrainSpec,
-};
+use super::parts::line_parts;
+use super::timetable::{LineTimetable, line_timetable};
+use cell_net::{BuildRefusal, Instance, InstanceParts, Labels, Scene};
 use std::alloc::{AllocError, Global};
-use vss_lists::{Items, Text};
 
-/// How many cells a train may advance in one step in a cell of a track without a limit.
-const NO_LIMIT: u32 = 20;
-
-/// The number of the node before cell `place` of `count`, where the first two nodes are the track's.
-fn node_before(network: &LineNetwork, count: u32, place: u32) -> NodeId
-    requires { place ≤ 1000 }
-    ensures { result.0 ≡ node_of_track network.now count place }
-{
-    if place == 0 {
-        NodeId(u32::from(network.turned))
-    } else if place == count {
-        NodeId(u32::from(!network.turned))
-    } else {
-        NodeId(place + 1)
-    }
-}
-
-fn cell_at(network: &LineNetwork, count: u32, place: u32) -> CellSpec
-    requires { place < 1000 }
-    ensures { result ≡ cell_of_track network.now count place }
-{
-    CellSpec {
-        low: node_before(network, count, place),
-        high: node_before(network, count, place + 1),
-        section: SectionId(0),
-        limit: NO_LIMIT,
-    }
-}
-
-fn cells_of(alloc: Global, network: &LineNetwork, count: u32) -> Result<Vec<CellSpec>, AllocError>
-    requires { count ≤ 1000 }
-    ensures { IfOk result (λ v. v.items ≡ map (cell_of_track network.now count) (range_with_len 0 count)) }
-{
-    let mut cells = Vec::with_capacity(alloc, count as usize)?;
-    for place in 0..count {
-        cells.push(cell_at(network, count, place))?;
-    }
-    Ok(cells)
-}
-
-fn join_at(cut: u32) -> JoinSpec
-    requires { cut < 1000 }
-    ensures { result ≡ join_of_cut cut }
-{
-    JoinSpec {
-        one: CellEnd {
-            cell: CellId(cut),
-            end: End::High,
-        },
-        other: CellEnd {
-            cell: CellId(cut + 1),
-            end: End::Low,
-        },
-    }
-}
-
-fn joins_of(alloc: Global, cuts: u32) -> Result<Vec<JoinSpec>, AllocError>
-    requires { cuts ≤ 512 }
-    ensures { IfOk result (λ v. v.items ≡ map join_of_cut (range_with_len 0 cuts)) }
-{
-    let mut joins = Vec::with_capacity(alloc, cuts as usize)?;
-    for cut in 0..cuts {
-        joins.push(join_at(cut))?;
-    }
-    Ok(joins)
-}
-
-fn candidates_of(alloc: Global, cuts: u32) -> Result<Vec<NodeId>, AllocError>
-    requires { cuts ≤ 512 }
-    ensures { IfOk result (λ v. v.items ≡ map candidate_of_cut (range_with_len 0 cuts)) }
-{
-    let mut candidates = Vec::with_capacity(alloc, cuts as usize)?;
-    for cut in 0..cuts {
-        candidates.push(NodeId(cut + 2))?;
-    }
-    Ok(candidates)
-}
-
-fn cell_labels(alloc: Global, count: u32) -> Result<Vec<CellLabel>, AllocError>
-    requires { count ≤ 1000 }
-    ensures { IfOk result (λ v. v.items ≡ map label_of_cell (range_with_len 0 count)) }
-{
-    let mut labels = Vec::with_capacity(alloc, count as usize)?;
-    for index in 0..count {
-        labels.push(CellLabel { track: 0, index })?;
-    }
-    Ok(labels)
-}
-
-fn place_labels(alloc: Global, grid: &Grid, cuts: u32) -> Result<Vec<PlaceLabel>, AllocError>
-    requires grid { IsGrid grid.now }
-    requires few { cuts ≤ 512 }
-    ensures { IfOk result (λ v. v.items ≡ map (label_of_cut grid.now) (range_with_len 0 cuts)) }
-{
-    let mut labels = Vec::with_capacity(alloc, cuts as usize)?;
-    for cut in 0..cuts {
-        labels.push(PlaceLabel::Cut {
-            track: 0,
-            at_m: (u64::from(cut) + 1) * grid.space_step_m,
-        })?;
-    }
-    Ok(labels)
-}
-
-fn track_names(alloc: Global, track: Text) -> Result<Vec<Text>, AllocError>
-    ensures { IfOk result (λ v. v.items ≡ track ∷ []) }
-{
-    let mut names = Vec::with_capacity(alloc, 1)?;
-    names.push(track)?;
-    Ok(names)
-}
-
-fn line_parts(
-    alloc: Global,
-    network: &LineNetwork,
-    grid: &Grid,
-    trains: Items<TrainSpec>,
-) -> Result<InstanceParts, AllocError>
-    requires grid { IsGrid grid.now }
-    requires coarse { IsCoarse network.now grid.now }
-    ensures { IfOk result (λ p. p ≡ parts_of network.now grid.now trains) }
-{
-    let count = cell_count(network, grid) as u32;
-    let cuts = count.saturating_sub(1);
-    Ok(InstanceParts {
-        nodes: cuts + 2,
-        sections: 1,
-        cells: Items::from_vec(cells_of(alloc, network, count)?),
-        joins: Items::from_vec(joins_of(alloc, cuts)?),
-        candidates: Items::from_vec(candidates_of(alloc, cuts)?),
-        kept: Items::new(alloc),
-        stations: Items::new(alloc),
-        trains,
-        steps: step_count(grid) as u32,
-    })
-}
-
-fn line_labels(
+fn parts_and_labels(
     alloc: Global,
     network: LineNetwork,
-    grid: &Grid,
-    names: Items<Text>,
-) -> Result<Labels, AllocError>
-    requires grid { IsGrid grid.now }
-    requires coarse { IsCoarse network grid.now }
-    ensures { IfOk result (λ l. l ≡ labels_of network grid.now names) }
+    timetable: LineTimetable,
+) -> Result<(InstanceParts, Labels), AllocError>
+    requires grid { IsGrid timetable.grid }
+    requires coarse { IsCoarse network timetable.grid }
+    ensures { IfOk result (λ both. (both.0 ≡ parts_of network timetable.grid timetable.trains)
+        × (both.1 ≡ labels_of network timetable.grid timetable.names)) }
 {
-    let count = cell_count(&network, grid) as u32;
-    let cuts = count.saturating_sub(1);
-    Ok(Labels {
-        tracks: Items::from_vec(track_names(alloc, network.track)?),
-        cells: Items::from_vec(cell_labels(alloc, count)?),
-        places: Items::from_vec(place_labels(alloc, grid, cuts)?),
-        trains: names,
-    })
+    let LineTimetable {
+        grid,
+        names,
+        trains,
+    } = timetable;
+    let parts = line_parts(alloc, &network, &grid, trains)?;
+    let labels = line_labels(alloc, network, &grid, names)?;
+    Ok((parts, labels))
+}
+
+/// The parts and names of the network's track and of the trains of a timetable document.
+fn line_scene(
+    alloc: Global,
+    network: LineNetwork,
+    bytes: &[u8],
+) -> Result<Option<(InstanceParts, Labels)>, AllocError>
+    ensures { IfOk result (λ found. MatchOption found
+        ((p : InstanceParts) (l : Labels) → ¬ IsTimetableScene network bytes.now p l)
+        (λ both. IsTimetableScene network bytes.now both.0 both.1)) }
+{
+    match line_timetable(alloc, bytes, &network)? {
+        Some(timetable) => Ok(Some(parts_and_labels(alloc, network, timetable)?)),
+        None => Ok(None),
+    }
+}
+
+/// The scene of the network and of the bytes of a timetable document, where that is a timetable of
+/// trains without stops on the network. Linear in the bytes.
+pub fn scene_of(
+    alloc: Global,
+    network: LineNetwork,
+    bytes: &[u8],
+) -> Result<Option<Scene>, BuildRefusal>
+    ensures scene { IfOk result (λ found. MatchOption found
+        ((p : InstanceParts) (l : Labels) → ¬ IsTimetableScene network bytes.now p l)
+        (λ s. IsTimetableScene network bytes.now s.inst s.labels)) }
+    ensures refusal { IfErr result (λ r. (r ≡ BuildRefusal.Memory)
+        ⊎ ((p : InstanceParts) × (l : Labels) × IsTimetableScene network bytes.now p l × IsRefusal p r)) }
+{
+    let (parts, labels) = match line_scene(alloc, network, bytes) {
+        Ok(Some(both)) => both,
+        Ok(None) => return Ok(None),
+        Err(_) => return Err(BuildRefusal::Memory),
+    };
+    match Instance::build(alloc, parts) {
+        Ok(inst) => Ok(Some(Scene { inst, labels })),
+        Err(refusal) => Err(refusal),
+    }
 }

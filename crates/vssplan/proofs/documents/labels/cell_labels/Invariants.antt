@@ -2,7 +2,7 @@
 use Rattle.std.proofs.Common.{◌≡◌, map}
 use Rattle.std.specs.List.{range_with_len}
 use Rattle.vssplan.specs.Scene.{cell_label}
-use Rattle.vssplan.proofs.documents.scene.cell_labels.Given as goal
+use Rattle.vssplan.proofs.documents.labels.cell_labels.Given as goal
 
 abbrev pub invariant-loop-index : goal.invariant-loop-index
 invariant-loop-index l = l.labels.items ≡ map cell_label (range_with_len 0 l.index)

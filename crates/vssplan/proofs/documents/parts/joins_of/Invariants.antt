@@ -2,7 +2,7 @@
 use Rattle.std.proofs.Common.{◌≡◌, map}
 use Rattle.std.specs.List.{range_with_len}
 use Rattle.vssplan.specs.Scene.{join_at}
-use Rattle.vssplan.proofs.documents.scene.joins_of.Given as goal
+use Rattle.vssplan.proofs.documents.parts.joins_of.Given as goal
 
 abbrev pub invariant-loop-cut : goal.invariant-loop-cut
 invariant-loop-cut l = l.joins.items ≡ map join_at (range_with_len 0 l.cut)
