@@ -1,8 +1,9 @@
-//! vssplan: judges the plan of a report for the layout of that report.
+//! Designs layouts of virtual sub-sections for ETCS Hybrid Train Detection.
 #![tactic(auto)]
 
 mod answer;
 mod breach;
+mod documents;
 mod judging;
 mod names;
 mod report;

@@ -1,0 +1,11 @@
+//! The two documents of a question: a network of one track and a timetable of its trains.
+
+mod grid;
+mod labels;
+mod members;
+mod names;
+mod network;
+mod parts;
+mod scene;
+mod timetable;
+mod trains;
