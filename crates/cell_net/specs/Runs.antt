@@ -53,7 +53,7 @@ pub record IsSweepAt (r : TrainRun) (step : ℕ) (sweep : Sweep) : Type 0 where
   pub is_there : slice_get r.sweeps (step - r.start) ≡ Some sweep
 
 -- the cell is one of the station's
-abbrev pub IsCellOf : InstanceParts → StationId → CellId → Type 0
+unfoldable pub IsCellOf : InstanceParts → StationId → CellId → Type 0
 IsCellOf p s c = (cells : List CellId) × (slice_get p.stations s.0 ≡ Some cells) × Contains cells c
 
 -- at the step the train stands wholly in the station

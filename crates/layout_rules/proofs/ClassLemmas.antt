@@ -1,6 +1,6 @@
 -- Linked cells are segments that reach each other.
-use Rattle.std.proofs.Common.{◌≡◌, ◌<◌, ◌⊎◌, ◌↔◌, inl, inr, ℕ, List, [], ◌∷◌, ◌++◌, length, map, Any, Contains, Some, slice_get, slice_index, option_map, refl, sym, subst, ◌∙◌, ap, arith}
-use Rattle.std.proofs.lemmas.List.{length-map}
+use Rattle.std.proofs.Common.{◌≡◌, ◌<◌, ◌≤◌, ◌⊎◌, ◌↔◌, inl, inr, ℕ, List, [], ◌∷◌, ◌++◌, length, map, Any, Contains, Some, slice_get, slice_index, get_or, option_map, refl, sym, subst, ◌∙◌, ap, arith}
+use Rattle.std.proofs.lemmas.List.{length-map, get_or_default}
 use Rattle.std.proofs.lemmas.Option.{slice_get-map, slice_get_cases}
 use Rattle.std.proofs.lemmas.List.Elements.{Contains-append_left, Contains-push, Contains-push_cases}
 use Rattle.cell_net.specs.Borders.{IsBorder, IsAtEnd, Meet, Linked}
@@ -12,8 +12,8 @@ use Rattle.cell_net.specs.declared.parts.InstanceParts.{InstanceParts}
 use Rattle.node_groups.specs.Reach.{Reaches}
 use Rattle.node_groups.specs.Touch.{HasEnd, Touch}
 use Rattle.node_groups.specs.declared.segments.Segment.{Segment}
-use Rattle.node_groups.proofs.ReachLaws.{Reaches-alike}
-use Rattle.node_groups.specs.Groups.{GroupsByReach}
+use Rattle.node_groups.proofs.ReachLaws.{Reaches-alike, Reaches-refl}
+use Rattle.node_groups.specs.Groups.{GroupsByReach, NamedByLowest}
 use Rattle.layout_rules.specs.Classes.{AreClasses}
 use Rattle.layout_rules.specs.Segments.{AreBarriers, segment_between}
 
@@ -95,15 +95,19 @@ barriers_push p borders b n barriers are is m = (
 -- groups of segments that reach each other are classes of linked cells
 pub classes_from_groups : (p : InstanceParts) (borders : List CandidateId) (segments : List Segment) (barriers groups : List ℕ) →
     segments ≡ map segment_between p.cells → AreBarriers p borders barriers → length groups ≡ length segments →
-    GroupsByReach (Touch segments barriers) groups → AreClasses p borders groups
-classes_from_groups p borders segments barriers groups cells are len by_reach =
+    GroupsByReach (Touch segments barriers) groups → NamedByLowest (Touch segments barriers) groups → AreClasses p borders groups
+classes_from_groups p borders segments barriers groups cells are len by_reach by_lowest =
     let each : length groups ≡ length p.cells = len ∙ (ap length cells ∙ simp length-map) in
     record {
       for_each_cell = each;
+      in_range = λ k d within.
+          let here : slice_index groups k ≤ k = (by_lowest k within).lowest k (Reaches-refl (Touch segments barriers) k) in
+          let same : get_or groups k d ≡ slice_index groups k = get_or_default groups k d 0 within in
+          omega arith;
       same_where_linked = λ e f he hf.
-        let reached : (slice_index groups e.0 ≡ slice_index groups f.0) ↔ Reaches (Touch (map segment_between p.cells) barriers) e.0 f.0 =
+          let reached : (slice_index groups e.0 ≡ slice_index groups f.0) ↔ Reaches (Touch (map segment_between p.cells) barriers) e.0 f.0 =
           subst (λ s. (slice_index groups e.0 ≡ slice_index groups f.0) ↔ Reaches (Touch s barriers) e.0 f.0) cells
-            (by_reach e.0 f.0 (omega arith) (omega arith)) in
-        let linked = linked_as_reached p borders barriers are e f in
-        (λ same. linked.1 (reached.0 same), λ link. reached.1 (linked.0 link))
+          (by_reach e.0 f.0 (omega arith) (omega arith)) in
+          let linked = linked_as_reached p borders barriers are e f in
+          (λ same. linked.1 (reached.0 same), λ link. reached.1 (linked.0 link));
     }

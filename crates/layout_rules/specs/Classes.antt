@@ -1,5 +1,5 @@
 -- The classes of cells that are linked under a layout.
-use Rattle.std.specs.Prelude.{◌≡◌, ◌↔◌, ℕ, List, length, slice_index}
+use Rattle.std.specs.Prelude.{◌≡◌, ◌<◌, ◌↔◌, ℕ, List, length, All, slice_index}
 use Rattle.cell_net.specs.Space.{IsCell}
 use Rattle.cell_net.specs.Borders.{Linked}
 use Rattle.cell_net.specs.declared.ids.CellId.{CellId}
@@ -10,7 +10,9 @@ use Rattle.cell_net.specs.declared.parts.InstanceParts.{InstanceParts}
 abbrev pub class_of : List ℕ → CellId → ℕ
 class_of classes cell = slice_index classes cell.0
 
--- one class for each cell, and two cells have the same exactly where they are linked
+-- one class for each cell, no more classes than cells, and two cells have the same exactly where they
+-- are linked
 pub record AreClasses (p : InstanceParts) (borders : List CandidateId) (classes : List ℕ) : Type 0 where
   pub for_each_cell : length classes ≡ length p.cells
+  pub in_range : All (λ k. k < length p.cells) classes
   pub same_where_linked : (e f : CellId) → IsCell p e → IsCell p f → (class_of classes e ≡ class_of classes f) ↔ Linked p borders e f

@@ -45,28 +45,41 @@ up_to_far ends order i (suc j) d le lt = elim (cases_eq i (suc j)) [
       UpTo-trans (get_or ends i d) (get_or ends j d) (get_or ends (suc j) d) (up_to_far ends order i j d (omega arith) (omega arith)) step
 ]
 
--- what stands between two ends at one node stands at that node
-between_same : (e f g : End) → UpTo e f → UpTo f g → e.part ≡ g.part → e.node ≡ g.node → (e.part ≡ f.part) × (e.node ≡ f.node)
-between_same e f g (inl h) (inl k) p n = absurd (omega arith)
-between_same e f g (inl h) (inr (k, l)) p n = absurd (omega arith)
-between_same e f g (inr (h, m)) (inl k) p n = absurd (omega arith)
-between_same e f g (inr (h, m)) (inr (k, l)) p n = (h, omega arith)
+-- what stands between two ends of a part is of that part
+pub between_part : (e f g : End) → UpTo e f → UpTo f g → e.part ≡ g.part → (e.part ≡ f.part) × (f.part ≡ g.part)
+between_part e f g (inl h) (inl k) p = absurd (omega arith)
+between_part e f g (inl h) (inr (k, l)) p = absurd (omega arith)
+between_part e f g (inr (h, m)) (inl k) p = absurd (omega arith)
+between_part e f g (inr (h, m)) (inr (k, l)) p = (h, k)
 
--- a relation that joins neighbours that meet joins all that meet
-pub meet_far : (barriers : List ℕ) (R : ℕ → ℕ → Type 0) → ((i : ℕ) → R i i) → ((i j k : ℕ) → R i j → R j k → R i k) → (ends : List End) → IsInOrder ends → AllAdjacentBelow (λ e f. MeetAt barriers e f → R e.place f.place) ends (length ends) → (i j : ℕ) (d : End) → i ≤ j → j < length ends → MeetAt barriers (get_or ends i d) (get_or ends j d) → R (get_or ends i d).place (get_or ends j d).place
-meet_far barriers R itself joins ends order near i zero d le lt meet = let e : i ≡ zero = omega arith in rw e (itself (get_or ends zero d).place)
-meet_far barriers R itself joins ends order near i (suc j) d le lt meet = elim (cases_eq i (suc j)) [
-  | inl same ↦ rw same (itself (get_or ends (suc j) d).place)
-  | inr other ↦
-      let next : UpTo (get_or ends j d) (get_or ends (suc j) d) = up_to_far ends order j (suc j) d (omega arith) lt in
-      let so_far : UpTo (get_or ends i d) (get_or ends j d) = up_to_far ends order i j d (omega arith) (omega arith) in
-      let between = between_same (get_or ends i d) (get_or ends j d) (get_or ends (suc j) d) so_far next meet.same_part meet.same_node in
-      let first : MeetAt barriers (get_or ends i d) (get_or ends j d) = record { same_part = between.0; same_node = between.1; no_barrier = meet.no_barrier } in
-      let second : MeetAt barriers (get_or ends j d) (get_or ends (suc j) d) =
-      record { same_part = sym between.0 ∙ meet.same_part; same_node = sym between.1 ∙ meet.same_node; no_barrier = λ at. meet.no_barrier (rw between.1 at) } in
-      joins _ _ _ (meet_far barriers R itself joins ends order near i j d (omega arith) (omega arith) first)
-      (subst (λ n. MeetAt barriers (get_or ends j d) (get_or ends n d) → R (get_or ends j d).place (get_or ends n d).place) (add-one j) (near j d (omega arith)) second)
-]
+between_node : (e f g : End) → UpTo e f → UpTo f g → e.part ≡ g.part → e.node ≡ g.node → e.node ≡ f.node
+between_node e f g (inl h) (inl k) p n = absurd (omega arith)
+between_node e f g (inl h) (inr (k, l)) p n = absurd (omega arith)
+between_node e f g (inr (h, m)) (inl k) p n = absurd (omega arith)
+between_node e f g (inr (h, m)) (inr (k, l)) p n = omega arith
+
+-- what stands between two ends that meet meets both
+pub between_met : (barriers : List ℕ) (e f g : End) → UpTo e f → UpTo f g → MeetAt barriers e g → MeetAt barriers e f × MeetAt barriers f g
+between_met barriers e f g before after meet =
+    let parts = between_part e f g before after meet.one_part in
+    let node : e.node ≡ f.node = between_node e f g before after meet.one_part meet.one_node in (
+      record { one_part = parts.0; one_node = node; free = meet.free },
+      record { one_part = parts.1; one_node = sym node ∙ meet.one_node; free = λ barrier. meet.free (rw node barrier) },
+    )
+
+-- what joins each two neighbours of a kind joins each two of that kind, where those between two of a kind are of that kind with both
+module _ (Kind Joins : End → End → Type 0) (itself : (e : End) → Joins e e) (joins : (e f g : End) → Joins e f → Joins f g → Joins e g) (between : (e f g : End) → UpTo e f → UpTo f g → Kind e g → Kind e f × Kind f g) (ends : List End) (order : IsInOrder ends) (n : ℕ) (within : n ≤ length ends) (near : AllAdjacentBelow (λ e f. Kind e f → Joins e f) ends n) where
+  pub joins_far : (i j : ℕ) (d : End) → i ≤ j → j < n → Kind (get_or ends i d) (get_or ends j d) → Joins (get_or ends i d) (get_or ends j d)
+  joins_far i zero d le lt kind = let e : i ≡ zero = omega arith in rw e (itself (get_or ends zero d))
+  joins_far i (suc j) d le lt kind = elim (cases_eq i (suc j)) [
+    | inl same ↦ rw same (itself (get_or ends (suc j) d))
+    | inr other ↦
+        let both = between (get_or ends i d) (get_or ends j d) (get_or ends (suc j) d)
+        (up_to_far ends order i j d (omega arith) (omega arith)) (up_to_far ends order j (suc j) d (omega arith) (omega arith)) kind in
+        let next : Kind (get_or ends j d) (get_or ends (suc j) d) → Joins (get_or ends j d) (get_or ends (suc j) d) =
+        subst (λ m. Kind (get_or ends j d) (get_or ends m d) → Joins (get_or ends j d) (get_or ends m d)) (add-one j) (near j d (omega arith)) in
+        joins (get_or ends i d) (get_or ends j d) (get_or ends (suc j) d) (joins_far i j d (omega arith) (omega arith) both.0) (next both.1)
+  ]
 
 -- a fact of every end that a segment of the list has holds of all ends
 pub ends_all : (Q : End → Type 0) (first : ℕ) (xs : List Segment) → ((k : ℕ) (s : Segment) (node : ℕ) → slice_get xs k ≡ Some s → HasEnd s node → Q (end_at s.part node (first + k))) → AllByRecursion Q (ends_from first xs)

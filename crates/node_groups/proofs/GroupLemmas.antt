@@ -12,7 +12,7 @@ use Rattle.node_groups.specs.Ends.{IsInOrder, MeetAt, Shares}
 use Rattle.node_groups.specs.Groups.{GroupsByReach, NamedByLowest}
 use Rattle.node_groups.proofs.ReachLaws.{Reaches-refl, Reaches-step, Reaches-keeps, Reaches-within}
 use Rattle.node_groups.proofs.ForestLaws.{Joined-refl, Joined-sym, Joined-trans, Joined-parent, Joined-within}
-use Rattle.node_groups.proofs.EndLemmas.{meet_far}
+use Rattle.node_groups.proofs.EndLemmas.{between_met, joins_far}
 
 -- what was joined still is, once a pair was added
 pub joined_kept : (p q : List ℕ) (a b i j : ℕ) → AddsPair p q a b → Joined p i j → Joined q i j
@@ -27,7 +27,7 @@ joined_pair p q a b adds = (adds a b).1 (Reaches-step (WithPair (Joined p) a b) 
 Shares-back : (ends : List End) (barriers : List ℕ) (i j : ℕ) → Shares ends barriers i j → Shares ends barriers j i
 unfolding Shares
 Shares-back ends barriers i j (e, f, e_in, f_in, e_at, f_at, meet) =
-    (f, e, f_in, e_in, f_at, e_at, record { same_part = sym meet.same_part; same_node = sym meet.same_node; no_barrier = λ at. meet.no_barrier (rw meet.same_node at) })
+    (f, e, f_in, e_in, f_at, e_at, record { one_part = sym meet.one_part; one_node = sym meet.one_node; free = λ at. meet.free (rw meet.one_node at) })
 
 Shares-meet : (ends : List End) (barriers : List ℕ) (e f : End) → Contains ends e → Contains ends f → MeetAt barriers e f → Shares ends barriers e.place f.place
 unfolding Shares
@@ -89,15 +89,15 @@ module _ (ends : List End) (barriers : List ℕ) where
   joined_where_met p order near i j (e, f, (k, k_below, k_is), (m, m_below, m_is), e_at, f_at, meet) =
       let e_is : get_or ends k e ≡ e = k_is in
       let f_is : get_or ends m e ≡ f = get_or_default ends m e f m_below ∙ m_is in
-      let back : MeetAt barriers f e = record { same_part = sym meet.same_part; same_node = sym meet.same_node; no_barrier = λ here. meet.no_barrier (rw meet.same_node here) } in
+      let back : MeetAt barriers f e = record { one_part = sym meet.one_part; one_node = sym meet.one_node; free = λ here. meet.free (rw meet.one_node here) } in
       rw (← e_at, ← f_at) (elim (cases_lt m k) [
         | inr upto ↦
             let far : Joined p (get_or ends k e).place (get_or ends m e).place =
-            meet_far barriers (Joined p) (Joined-refl p) (Joined-trans p) ends order near k m e upto m_below (rw (e_is, f_is) meet) in
+            joins_far (MeetAt barriers) (λ e f. Joined p e.place f.place) (λ e. Joined-refl p e.place) (λ e f g. Joined-trans p e.place f.place g.place) (between_met barriers) ends order (length ends) (omega arith) near k m e upto m_below (rw (e_is, f_is) meet) in
             rw (e_is, f_is) at far
         | inl above ↦
             let far : Joined p (get_or ends m e).place (get_or ends k e).place =
-            meet_far barriers (Joined p) (Joined-refl p) (Joined-trans p) ends order near m k e (omega arith) k_below (rw (f_is, e_is) back) in
+            joins_far (MeetAt barriers) (λ e f. Joined p e.place f.place) (λ e. Joined-refl p e.place) (λ e f g. Joined-trans p e.place f.place g.place) (between_met barriers) ends order (length ends) (omega arith) near m k e (omega arith) k_below (rw (f_is, e_is) back) in
             Joined-sym p f.place e.place (rw (f_is, e_is) at far)
       ])
 

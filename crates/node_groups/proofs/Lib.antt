@@ -4,3 +4,8 @@ pub mod EndLemmas
 pub mod GroupLemmas
 pub mod TouchLemmas
 pub mod TouchLaws
+pub mod RunLemmas
+pub mod SparseLemmas
+pub mod SplitLemmas
+pub mod PartLemmas
+pub mod PartLaws

@@ -57,13 +57,13 @@ module _ (segments : List Segment) (ends : List End) (same : IsPermutation (ends
         record {
           first = first.segment;
           second = second.segment;
+          node = e.node;
           at_first = rw (← e_at) first.is;
           at_second = rw (← f_at) second.is;
-          one_part = first.part ∙ meet.same_part ∙ sym second.part;
-          node = e.node;
+          one_part = first.part ∙ meet.one_part ∙ sym second.part;
           end_of_first = first.node;
-          end_of_second = rw meet.same_node second.node;
-          no_barrier = λ barrier. meet.no_barrier (Contains-permutation barriers sorted e.node sort barrier);
+          end_of_second = rw meet.one_node second.node;
+          no_barrier = λ barrier. meet.free (Contains-permutation barriers sorted e.node sort barrier);
         }
 
     pub shares_from_touch : (i j : ℕ) → Touch segments barriers i j → Shares ends sorted i j
@@ -76,9 +76,9 @@ module _ (segments : List Segment) (ends : List End) (same : IsPermutation (ends
       refl,
       refl,
       record {
-        same_part = touch.one_part;
-        same_node = refl;
-        no_barrier = λ barrier. touch.no_barrier (Contains-permutation sorted barriers touch.node (IsPermutation-sym barriers sorted sort) barrier);
+        one_part = touch.one_part;
+        one_node = refl;
+        free = λ barrier. touch.no_barrier (Contains-permutation sorted barriers touch.node (IsPermutation-sym barriers sorted sort) barrier);
       },
     )
 

@@ -1,3 +1,4 @@
+-- Ends: the two ends of each segment, their order, and where they meet.
 use Rattle.std.specs.Prelude.{◌≡◌, ℕ, ◌+◌, ◌<◌, ◌≤◌, ◌⊎◌, List, [], ◌∷◌, length, Contains}
 use Rattle.std.specs.List.{AllAdjacentBelow}
 use Rattle.node_groups.specs.declared.segments.Segment.{Segment}
@@ -22,9 +23,9 @@ IsInOrder ends = AllAdjacentBelow UpTo ends (length ends)
 
 -- two ends stand at one node of one part, which is none of the barriers
 pub record MeetAt (barriers : List ℕ) (e f : End) : Type 0 where
-  pub same_part : e.part ≡ f.part
-  pub same_node : e.node ≡ f.node
-  pub no_barrier : Contains barriers e.node → ⊥
+  pub one_part : e.part ≡ f.part
+  pub one_node : e.node ≡ f.node
+  pub free : ¬ Contains barriers e.node
 
 -- the places of two ends of the list that meet
 unfoldable pub Shares : List End → List ℕ → ℕ → ℕ → Type 0

@@ -1,3 +1,4 @@
+-- Forest: a list that gives each item a parent, read as trees.
 use Rattle.std.specs.Prelude.{◌≡◌, ℕ, ◌<◌, ◌≤◌, ◌⊎◌, ◌↔◌, List, length, slice_index}
 use Rattle.node_groups.specs.Reach.{Reaches}
 

@@ -1,3 +1,4 @@
+-- Groups: one number for each place, the same for places that reach each other.
 use Rattle.std.specs.Prelude.{◌≡◌, ℕ, ◌<◌, ◌≤◌, ◌↔◌, List, length, slice_index}
 use Rattle.node_groups.specs.Reach.{Reaches}
 

@@ -3,3 +3,5 @@ pub mod Touch
 pub mod Forest
 pub mod Ends
 pub mod Groups
+pub mod Parts
+pub mod Counts

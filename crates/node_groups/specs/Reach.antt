@@ -1,3 +1,4 @@
+-- Reach: what is reached by the steps of a relation.
 use Rattle.std.specs.Prelude.{◌≡◌, List, [], ◌∷◌}
 
 -- the items lead from a to b: each is related to the one before it, the first of them to a, and the last is b.

@@ -1,3 +1,4 @@
+-- Touch: segments of one part that share a node.
 use Rattle.std.specs.Prelude.{◌≡◌, ℕ, ◌⊎◌, List, Contains, Some, slice_get}
 use Rattle.node_groups.specs.declared.segments.Segment.{Segment}
 
@@ -15,4 +16,4 @@ pub record Touch (segments : List Segment) (barriers : List ℕ) (i j : ℕ) : T
   pub node : ℕ
   pub end_of_first : HasEnd first node
   pub end_of_second : HasEnd second node
-  pub no_barrier : Contains barriers node → ⊥
+  pub no_barrier : ¬ Contains barriers node

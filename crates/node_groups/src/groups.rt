@@ -28,7 +28,7 @@ fn join_ends(parents: &mut [u32], ends: &[End], barriers: &[u32])
     }
 }
 
-/// The groups of the places below `count` that ends in order join where they meet.
+/// The groups of the places below `count`, where ends that meet join the places of their segments.
 pub fn groups_by_ends(
     alloc: Global,
     count: usize,
@@ -50,10 +50,10 @@ pub fn groups_by_ends(
     Ok(groups)
 }
 
-/// Groups the segments by what they reach: in each step from a segment to one of the same part that shares a node with it
-/// which is none of the barriers. Gives each segment the number of its group, which is the lowest place in the group.
+/// Groups the segments by what they reach, in steps from a segment to one of the same part that shares a node with it which
+/// is none of the barriers. Gives each segment the number of its group: the lowest place in that group.
 ///
-/// The time is that of sorting the segments' ends and the barriers.
+/// The barriers may stand in any order, and twice. The time is that of sorting the segments' ends and the barriers.
 pub fn groups_of(
     alloc: Global,
     segments: &[Segment],

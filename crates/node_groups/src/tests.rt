@@ -1,22 +1,32 @@
 use crate::groups::groups_of;
+use crate::parts::{first_bad_part, first_cyclic_part, first_split_part};
 use crate::segments::Segment;
-use std::alloc::Global;
+use std::alloc::{AllocError, Global};
 use std::process::Abort;
 use std::test::Fail;
 
-fn segment(low: u32, high: u32, part: u32) -> Segment {
-    Segment { low, high, part }
+/// Each triple is a segment's low node, its high node and its part.
+type Triples<'a> = &'a [(u32, u32, u32)];
+
+const TOP: u32 = u32::MAX;
+
+fn segments_of(alloc: Global, triples: Triples) -> Result<Vec<Segment>, AllocError> {
+    triples
+        .iter()
+        .map(|&(low, high, part)| Segment { low, high, part })
+        .collect(alloc)
 }
 
 fn check_groups(
     rt: &impl Abort,
     alloc: Global,
-    segments: &[Segment],
+    triples: Triples,
     barriers: &[u32],
     want: &[u32],
 ) -> Result<(), Fail> {
+    let segments = segments_of(alloc, triples)?;
     assert!(rt; segments.len() < 1000);
-    let groups = groups_of(alloc, segments, barriers)?;
+    let groups = groups_of(alloc, &segments, barriers)?;
     assert_eq!(rt; groups.as_slice(), want);
     Ok(())
 }
@@ -29,7 +39,7 @@ fn groups_segments_by_the_open_nodes_that_they_share(rt: HostRuntime) -> Result<
     check_groups(
         &rt,
         alloc,
-        &[segment(7, 8, 0), segment(5, 6, 0), segment(6, 7, 0)],
+        &[(7, 8, 0), (5, 6, 0), (6, 7, 0)],
         &[],
         &[0, 0, 0],
     )?;
@@ -37,15 +47,15 @@ fn groups_segments_by_the_open_nodes_that_they_share(rt: HostRuntime) -> Result<
     check_groups(
         &rt,
         alloc,
-        &[segment(1, 2, 0), segment(2, 3, 1), segment(3, 4, 1)],
+        &[(1, 2, 0), (2, 3, 1), (3, 4, 1)],
         &[],
         &[0, 1, 1],
     )?;
-    // a barrier, named twice, parts a chain; another one is no node here
+    // a barrier, named twice, parts a chain; the other one stands elsewhere
     check_groups(
         &rt,
         alloc,
-        &[segment(1, 2, 0), segment(2, 3, 0), segment(3, 4, 0)],
+        &[(1, 2, 0), (2, 3, 0), (3, 4, 0)],
         &[3, 9, 3],
         &[0, 0, 2],
     )?;
@@ -53,29 +63,87 @@ fn groups_segments_by_the_open_nodes_that_they_share(rt: HostRuntime) -> Result<
     check_groups(
         &rt,
         alloc,
-        &[segment(1, 9, 4), segment(2, 9, 4), segment(9, 3, 4)],
+        &[(1, 9, 4), (2, 9, 4), (9, 3, 4)],
         &[],
         &[0, 0, 0],
     )?;
-    // a ring of three, which one barrier does not part
+    // a ring, which one barrier does not part
     check_groups(
         &rt,
         alloc,
-        &[segment(1, 2, 0), segment(2, 3, 0), segment(3, 1, 0)],
+        &[(1, 2, 0), (2, 3, 0), (3, 1, 0)],
         &[2],
         &[0, 0, 0],
     )?;
     // the highest numbers
-    let top = u32::MAX;
     check_groups(
         &rt,
         alloc,
-        &[
-            segment(0, top, top),
-            segment(5, 6, top),
-            segment(top, 1, top),
-        ],
+        &[(0, TOP, TOP), (5, 6, TOP), (TOP, 1, TOP)],
         &[],
         &[0, 1, 0],
+    )
+}
+
+/// Wants the lowest part that is split, the lowest that is cyclic, and the lowest that is no tree.
+fn check_parts(
+    rt: &impl Abort,
+    alloc: Global,
+    triples: Triples,
+    want: [Option<u32>; 3],
+) -> Result<(), Fail> {
+    let segments = segments_of(alloc, triples)?;
+    assert!(rt; segments.len() < 1000);
+    let split = first_split_part(alloc, &segments)?;
+    let cyclic = first_cyclic_part(alloc, &segments)?;
+    let bad = first_bad_part(alloc, &segments)?;
+    assert_eq!(rt; [split, cyclic, bad], want);
+    Ok(())
+}
+
+#[test]
+fn finds_the_lowest_part_that_is_no_tree(rt: HostRuntime) -> Result<(), Fail> {
+    let alloc = rt.alloc();
+    check_parts(&rt, alloc, &[], [None, None, None])?;
+    // two parts that share a node
+    check_parts(
+        &rt,
+        alloc,
+        &[(1, 2, 7), (3, 2, 7), (3, 9, 5)],
+        [None, None, None],
+    )?;
+    // three legs at one node
+    check_parts(
+        &rt,
+        alloc,
+        &[(4, 8, 6), (8, 5, 6), (6, 8, 6)],
+        [None, None, None],
+    )?;
+    // what only another part joins
+    check_parts(
+        &rt,
+        alloc,
+        &[(1, 2, 8), (2, 3, 4), (3, 4, 8)],
+        [Some(8), None, Some(8)],
+    )?;
+    // a ring with a branch in part 3, and a split in part 5
+    let ring = [
+        (0, 5, 5),
+        (1, 2, 3),
+        (2, 3, 3),
+        (3, 1, 3),
+        (3, 4, 3),
+        (6, 7, 5),
+    ];
+    check_parts(&rt, alloc, &ring, [Some(5), Some(3), Some(3)])?;
+    // two segments between the same two nodes in part 9, and a split in part 2
+    let pair = [(1, 2, 9), (2, 1, 9), (1, 2, 2), (3, 4, 2)];
+    check_parts(&rt, alloc, &pair, [Some(2), Some(9), Some(2)])?;
+    // a segment from a node to itself, with the highest numbers
+    check_parts(
+        &rt,
+        alloc,
+        &[(1, 2, 0), (TOP, TOP, TOP)],
+        [None, Some(TOP), Some(TOP)],
     )
 }

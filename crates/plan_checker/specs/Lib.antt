@@ -1,1 +1,5 @@
 pub mod Clashes
+pub mod ClashSearch
+pub mod RunFaults
+pub mod Stations
+pub mod Verdicts

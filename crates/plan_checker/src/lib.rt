@@ -1,2 +1,12 @@
 //! The judge of plans: whether a plan is lawful under a layout, or else its first breach.
 #![tactic(auto)]
+
+mod clashes;
+mod judging;
+mod marks;
+mod pairs;
+mod runs;
+mod stops;
+mod sweeps;
+
+pub use judging::{Breach, Verdict, judge};

@@ -9,5 +9,6 @@ pub returns : goal.returns
 returns c =
     let len = rw c.deref.ensures.value at c.in_ok-classes.ensures.len in
     let same = rw (c.deref.ensures.value, c.deref-2.ensures.value) at c.in_ok-classes.ensures.same in
+    let lowest = rw (c.deref.ensures.value, c.deref-2.ensures.value) at c.in_ok-classes.ensures.lowest in
     let barriers = rw c.borders.ensures at c.in_ok-barriers.ensures in
-    classes_from_groups c.args.inst.now c.args.layout.now _ _ _ c.in_ok-segments.ensures.cells barriers len same
+    classes_from_groups c.args.inst.now c.args.layout.now _ _ _ c.in_ok-segments.ensures.cells barriers len same lowest

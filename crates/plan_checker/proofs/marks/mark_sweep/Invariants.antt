@@ -1,0 +1,9 @@
+use Rattle.vss_lists.specs.Breaks.{HoldsBelow}
+use Rattle.plan_checker.specs.ClashSearch.{IsClassMarked, KeepsMarks}
+use Rattle.plan_checker.proofs.marks.mark_sweep.Given as goal
+
+abbrev pub invariant-loop-directed : goal.invariant-loop-directed
+invariant-loop-directed l = record {
+  marked : HoldsBelow (IsClassMarked l.classes l.marks l.step l.train) l.cells l.directed-index;
+  kept : KeepsMarks l.step l.initial.marks l.marks;
+}

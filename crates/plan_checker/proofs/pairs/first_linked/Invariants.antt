@@ -1,0 +1,6 @@
+use Rattle.vss_lists.specs.Breaks.{HoldsBelow}
+use Rattle.plan_checker.specs.ClashSearch.{IsSeparatedFromAll}
+use Rattle.plan_checker.proofs.pairs.first_linked.Given as goal
+
+abbrev pub invariant-loop-directed : goal.invariant-loop-directed
+invariant-loop-directed l = HoldsBelow (IsSeparatedFromAll l.traffic.inst.now l.traffic.layout.now l.other) l.one l.directed-index

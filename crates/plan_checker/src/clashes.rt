@@ -1,0 +1,81 @@
+ghost use Rattle.std.specs.Prelude.{◌≡◌, ◌<◌, IfOk, MatchOption, length, ℕ};
+ghost use Rattle.std.specs.List.{AllZip};
+ghost use Rattle.cell_net.specs.Runs.{IsRun};
+ghost use Rattle.layout_rules.specs.Classes.{AreClasses};
+ghost use Rattle.plan_checker.specs.Clashes.{AreApartAt, IsFirstClash};
+ghost use Rattle.plan_checker.specs.ClashSearch.{AreAllApartAt, IsFirstClashAt, IsTraffic};
+
+use crate::marks::{Mark, are_clearly_apart, no_marks};
+use crate::pairs::{Traffic, first_clash_at};
+use cell_net::{CellId, Instance, Layout, Plan, TrainId};
+use layout_rules::Classes;
+use std::alloc::{AllocError, Global};
+
+/// Two trains of a plan that aren't apart at a step, and by which cells: `a` touches `e` there, and
+/// `b` touches `f`.
+#[derive(Clone, Copy, Debug)]
+pub(crate) struct Clash {
+    pub a: TrainId,
+    pub b: TrainId,
+    pub step: u32,
+    pub e: CellId,
+    pub f: CellId,
+}
+
+/// The first clash of two trains: at the first step, there of the first pair of trains, by the first
+/// linked cells of their sweeps. Takes memory linear in the cells of the instance, and where no two
+/// trains clash, time linear in the cells of all sweeps.
+pub(crate) fn first_clash(
+    alloc: Global,
+    inst: &Instance,
+    layout: &Layout,
+    classes: &Classes,
+    plan: &Plan,
+) -> Result<Option<Clash>, AllocError>
+    requires classes { AreClasses inst.now layout.now classes.now }
+    requires runs { AllZip (IsRun inst.now) inst.now.trains plan.now.runs }
+    ensures { IfOk result (λ found. MatchOption found
+        ((step x y : ℕ) → x < y → AreApartAt inst.now layout.now plan.now.runs step x y)
+        (λ k. IsFirstClash inst.now layout.now plan.now.runs k.a.0 k.b.0 k.step k.e k.f)) }
+{
+    let traffic = Traffic {
+        inst,
+        layout,
+        classes,
+        runs: plan.runs.as_slice(),
+    };
+    let mut marks = no_marks(alloc, inst.parts().cells.len())?;
+    Ok(first_clash_in(&traffic, &mut marks))
+}
+
+/// The first clash, with a mark for each cell.
+fn first_clash_in(traffic: &Traffic, marks: &mut [Option<Mark>]) -> Option<Clash>
+    requires traffic { IsTraffic traffic.now.inst.now traffic.now.layout.now traffic.now.classes.now traffic.now.runs.now }
+    requires marks { length marks.old ≡ length traffic.now.inst.now.cells }
+    ensures { MatchOption result
+        ((step x y : ℕ) → x < y → AreApartAt traffic.now.inst.now traffic.now.layout.now traffic.now.runs.now step x y)
+        (λ k. IsFirstClash traffic.now.inst.now traffic.now.layout.now traffic.now.runs.now k.a.0 k.b.0 k.step k.e k.f) }
+{
+    for step in 0..traffic.inst.steps() {
+        match clash_at(traffic, step, marks) {
+            Some(clash) => return Some(clash),
+            None => {}
+        }
+    }
+    None
+}
+
+/// The clash of the first pair of trains at the step. Compares pairs only where the marks don't show
+/// that there is none.
+fn clash_at(traffic: &Traffic, step: u32, marks: &mut [Option<Mark>]) -> Option<Clash>
+    requires traffic { IsTraffic traffic.now.inst.now traffic.now.layout.now traffic.now.classes.now traffic.now.runs.now }
+    requires marks { length marks.old ≡ length traffic.now.inst.now.cells }
+    ensures { MatchOption result
+        (AreAllApartAt traffic.now.inst.now traffic.now.layout.now traffic.now.runs.now step)
+        (IsFirstClashAt traffic.now.inst.now traffic.now.layout.now traffic.now.runs.now step) }
+{
+    if are_clearly_apart(traffic, step, marks) {
+        return None;
+    }
+    first_clash_at(traffic, step)
+}

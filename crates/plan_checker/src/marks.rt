@@ -1,0 +1,97 @@
+ghost use Rattle.std.specs.Prelude.{◌≡◌, ◌<◌, ◌↔◌, All, IfOk, IsTrue, length};
+ghost use Rattle.vss_lists.specs.Breaks.{HoldsOfEach};
+ghost use Rattle.layout_rules.specs.Classes.{class_of};
+ghost use Rattle.plan_checker.specs.ClashSearch.{AreAllApartAt, IsClassMarked, IsFreeFor, IsMarked, IsTraffic, IsTrainMarked, KeepsMarks};
+
+use crate::pairs::{Traffic, sweep_at};
+use cell_net::DirCell;
+use layout_rules::Classes;
+use std::alloc::{AllocError, Global};
+
+/// Which train touched a cell of a class last, and at which step.
+#[derive(Clone, Copy, Debug)]
+pub(crate) struct Mark {
+    pub step: u32,
+    pub train: u32,
+}
+
+/// No mark, for each of so many classes.
+pub(crate) fn no_marks(alloc: Global, count: usize) -> Result<Vec<Option<Mark>>, AllocError>
+    ensures { IfOk result (λ marks. length marks.items ≡ count) }
+{
+    vec![in alloc; None; count]
+}
+
+/// Whether no two trains touch one class at the step, which shows that all are apart; linear in the
+/// cells of the sweeps at the step.
+pub(crate) fn are_clearly_apart(traffic: &Traffic, step: u32, marks: &mut [Option<Mark>]) -> bool
+    requires traffic { IsTraffic traffic.now.inst.now traffic.now.layout.now traffic.now.classes.now traffic.now.runs.now }
+    requires marks { length marks.old ≡ length traffic.now.inst.now.cells }
+    ensures { IsTrue result → AreAllApartAt traffic.now.inst.now traffic.now.layout.now traffic.now.runs.now step }
+{
+    for train in 0..traffic.inst.train_count() {
+        if !mark_train(traffic, step, train, marks) {
+            return false;
+        }
+    }
+    true
+}
+
+/// Marks the classes of the cells that the train touches at the step, as `mark_sweep` does.
+fn mark_train(traffic: &Traffic, step: u32, train: u32, marks: &mut [Option<Mark>]) -> bool
+    requires traffic { IsTraffic traffic.now.inst.now traffic.now.layout.now traffic.now.classes.now traffic.now.runs.now }
+    requires train { train < length traffic.now.runs.now }
+    requires marks { length marks.old ≡ length traffic.now.inst.now.cells }
+    ensures marked { IsTrue result → IsTrainMarked traffic.now.classes.now marks.new traffic.now.runs.now step train }
+    ensures kept { KeepsMarks step marks.old marks.new }
+{
+    match sweep_at(&traffic.runs[train as usize], step) {
+        None => true,
+        Some(sweep) => mark_sweep(traffic.classes, sweep.cells.as_slice(), step, train, marks),
+    }
+}
+
+/// Marks the classes of the cells for the train at the step, up to the first that another train
+/// marked at this step; says whether there was none.
+fn mark_sweep(
+    classes: &Classes,
+    cells: &[DirCell],
+    step: u32,
+    train: u32,
+    marks: &mut [Option<Mark>],
+) -> bool
+    requires cells { All (λ d. d.cell.0 < length classes.now) cells.now }
+    requires classes { All (λ k. k < length marks.old) classes.now }
+    ensures marked { IsTrue result → HoldsOfEach (IsClassMarked classes.now marks.new step train) cells.now }
+    ensures kept { KeepsMarks step marks.old marks.new }
+{
+    for directed in cells {
+        if !mark_class(marks, classes.class(directed.cell), step, train) {
+            return false;
+        }
+    }
+    true
+}
+
+/// Marks the class for the train at the step, unless another train did at this step; says whether it
+/// is marked.
+fn mark_class(marks: &mut [Option<Mark>], class: u32, step: u32, train: u32) -> bool
+    requires { class < length marks.old }
+    ensures marked { IsTrue result → IsMarked marks.new step train class }
+    ensures kept { KeepsMarks step marks.old marks.new }
+{
+    if !is_free_for(marks[class as usize], step, train) {
+        return false;
+    }
+    marks[class as usize] = Some(Mark { step, train });
+    true
+}
+
+fn is_free_for(mark: Option<Mark>, step: u32, train: u32) -> bool
+    ensures { IsTrue result ↔ IsFreeFor mark step train }
+{
+    match mark {
+        None => true,
+        Some(mark) => mark.step != step || mark.train == train,
+    }
+}

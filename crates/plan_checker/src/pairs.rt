@@ -1,0 +1,132 @@
+ghost use Rattle.std.specs.Prelude.{◌≡◌, ◌<◌, ◌↔◌, IsTrue, MatchOption, Some, length, slice_get};
+ghost use Rattle.vss_lists.specs.Breaks.{HoldsOfEach};
+ghost use Rattle.cell_net.specs.Space.{IsCell};
+ghost use Rattle.cell_net.specs.Borders.{Linked};
+ghost use Rattle.cell_net.specs.Plans.{AreSeparated};
+ghost use Rattle.cell_net.specs.Runs.{IsSweepAt};
+ghost use Rattle.cell_net.specs.declared.plans.Sweep.{Sweep};
+ghost use Rattle.layout_rules.specs.Classes.{AreClasses};
+ghost use Rattle.plan_checker.specs.Clashes.{AreApartAt, AreFirstLinked};
+ghost use Rattle.plan_checker.specs.ClashSearch.{AreAllApartAt, AreCells, IsApartFromLater, IsClash, IsFirstClashAt, IsFirstClashOf, IsFirstLinkedTo, IsSeparated, IsTraffic};
+
+use crate::clashes::Clash;
+use cell_net::{CellId, DirCell, Instance, Layout, Sweep, TrainId, TrainRun};
+use layout_rules::Classes;
+
+/// The runs of the trains of an instance, and the classes of the cells that are linked under a
+/// layout.
+#[derive(Clone, Copy)]
+pub(crate) struct Traffic<'a> {
+    pub inst: &'a Instance,
+    pub layout: &'a Layout,
+    pub classes: &'a Classes,
+    pub runs: &'a [TrainRun],
+}
+
+/// The clash of the first pair of trains at the step.
+pub(crate) fn first_clash_at(traffic: &Traffic, step: u32) -> Option<Clash>
+    requires { IsTraffic traffic.now.inst.now traffic.now.layout.now traffic.now.classes.now traffic.now.runs.now }
+    ensures { MatchOption result
+        (AreAllApartAt traffic.now.inst.now traffic.now.layout.now traffic.now.runs.now step)
+        (IsFirstClashAt traffic.now.inst.now traffic.now.layout.now traffic.now.runs.now step) }
+{
+    for a in 0..traffic.inst.train_count() {
+        match first_clash_of(traffic, step, a) {
+            Some(clash) => return Some(clash),
+            None => {}
+        }
+    }
+    None
+}
+
+/// The clash of a train at the step with the first later one.
+fn first_clash_of(traffic: &Traffic, step: u32, a: u32) -> Option<Clash>
+    requires traffic { IsTraffic traffic.now.inst.now traffic.now.layout.now traffic.now.classes.now traffic.now.runs.now }
+    requires train { a < length traffic.now.runs.now }
+    ensures { MatchOption result
+        (IsApartFromLater traffic.now.inst.now traffic.now.layout.now traffic.now.runs.now step a)
+        (IsFirstClashOf traffic.now.inst.now traffic.now.layout.now traffic.now.runs.now step a) }
+{
+    let trains = traffic.inst.train_count();
+    for b in a + 1..trains {
+        match first_linked_at(traffic, step, a, b) {
+            Some((e, f)) => {
+                return Some(Clash {
+                    a: TrainId(a),
+                    b: TrainId(b),
+                    step,
+                    e,
+                    f,
+                });
+            }
+            None => {}
+        }
+    }
+    None
+}
+
+/// The first linked cells of two trains at the step.
+fn first_linked_at(traffic: &Traffic, step: u32, a: u32, b: u32) -> Option<(CellId, CellId)>
+    requires traffic { IsTraffic traffic.now.inst.now traffic.now.layout.now traffic.now.classes.now traffic.now.runs.now }
+    requires one { a < length traffic.now.runs.now }
+    requires other { b < length traffic.now.runs.now }
+    ensures { MatchOption result
+        (AreApartAt traffic.now.inst.now traffic.now.layout.now traffic.now.runs.now step a b)
+        (λ pair. IsClash traffic.now.inst.now traffic.now.layout.now traffic.now.runs.now a b step pair.0 pair.1) }
+{
+    let one = sweep_at(&traffic.runs[a as usize], step)?;
+    let other = sweep_at(&traffic.runs[b as usize], step)?;
+    first_linked(traffic, one.cells.as_slice(), other.cells.as_slice())
+}
+
+/// The sweep of the run at the step, if it has one.
+pub(crate) fn sweep_at(run: &TrainRun, step: u32) -> Option<&Sweep>
+    ensures { MatchOption result ((w : Sweep) → ¬ IsSweepAt run.now step w) (λ w. IsSweepAt run.now step w.now) }
+{
+    let place = step.checked_sub(run.start)?;
+    run.sweeps.get(place as usize)
+}
+
+/// The first linked cells, in the order of the one list, then of the other.
+fn first_linked(traffic: &Traffic, one: &[DirCell], other: &[DirCell]) -> Option<(CellId, CellId)>
+    requires classes { AreClasses traffic.now.inst.now traffic.now.layout.now traffic.now.classes.now }
+    requires one { AreCells traffic.now.inst.now one.now }
+    requires other { AreCells traffic.now.inst.now other.now }
+    ensures { MatchOption result
+        (AreSeparated traffic.now.inst.now traffic.now.layout.now one.now other.now)
+        (λ pair. AreFirstLinked traffic.now.inst.now traffic.now.layout.now one.now other.now pair.0 pair.1) }
+{
+    for directed in one {
+        match first_linked_to(traffic, directed.cell, other) {
+            Some(cell) => return Some((directed.cell, cell)),
+            None => {}
+        }
+    }
+    None
+}
+
+/// The first of the cells that is linked with this one.
+fn first_linked_to(traffic: &Traffic, cell: CellId, cells: &[DirCell]) -> Option<CellId>
+    requires classes { AreClasses traffic.now.inst.now traffic.now.layout.now traffic.now.classes.now }
+    requires cell { IsCell traffic.now.inst.now cell }
+    requires cells { AreCells traffic.now.inst.now cells.now }
+    ensures { MatchOption result
+        (HoldsOfEach (IsSeparated traffic.now.inst.now traffic.now.layout.now cell) cells.now)
+        (IsFirstLinkedTo traffic.now.inst.now traffic.now.layout.now cell cells.now) }
+{
+    for directed in cells {
+        if are_linked(traffic, cell, directed.cell) {
+            return Some(directed.cell);
+        }
+    }
+    None
+}
+
+fn are_linked(traffic: &Traffic, one: CellId, other: CellId) -> bool
+    requires classes { AreClasses traffic.now.inst.now traffic.now.layout.now traffic.now.classes.now }
+    requires one { IsCell traffic.now.inst.now one }
+    requires other { IsCell traffic.now.inst.now other }
+    ensures { IsTrue result ↔ Linked traffic.now.inst.now traffic.now.layout.now one other }
+{
+    traffic.classes.linked(one, other)
+}

@@ -1,0 +1,14 @@
+-- A shelf in memory.
+use Rattle.std.specs.Prelude.{ℕ, List, count_by}
+use Rattle.std.specs.Str.{bytes_eq}
+use Rattle.vss_io.specs.Calls.{CallCount}
+
+-- the files, the readings, and the name of each reading that failed
+pub record MemReading : Type 0 where
+  pub files : List (List ℕ × List ℕ)
+  pub reads : CallCount
+  pub failed : List (List ℕ)
+
+-- how often the name stands in the list
+abbrev pub count_of : List (List ℕ) → List ℕ → ℕ
+count_of names name = count_by (λ other. bytes_eq other name) names
