@@ -1,6 +1,6 @@
 pub mod FileNames
 pub mod Grid
-pub mod Judging
+pub mod Inputs
 pub mod Lines
 pub mod Members
 pub mod Names
@@ -8,7 +8,9 @@ pub mod Network
 pub mod PlaceNames
 pub mod PrintedNames
 pub mod Report
+pub mod Run
 pub mod Scene
+pub mod Stops
 pub mod Texts
 pub mod Timetable
 pub mod Trains

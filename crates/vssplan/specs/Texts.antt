@@ -8,8 +8,8 @@ use Rattle.vssplan.specs.declared.answer.Refusal.{Refusal}
 use Rattle.vssplan.specs.declared.answer.Refusal.TheVariants.{NotYet, FileTooLong}
 use Rattle.vssplan.specs.declared.answer.Answer.{Answer}
 use Rattle.vssplan.specs.declared.answer.Answer.TheVariants as answer
-use Rattle.vssplan.specs.declared.judging.Breach.{Breach}
-use Rattle.vssplan.specs.declared.judging.Breach.TheVariants.{Border, Entry, Path, Length, Speed, Join, Late, Stop, Apart}
+use Rattle.plan_checker.specs.declared.judging.Breach.{Breach}
+use Rattle.plan_checker.specs.declared.judging.Breach.TheVariants.{Border, Entry, Path, Length, Speed, Join, Late, Stop, Apart}
 use Rattle.cell_net.specs.declared.ids.CellId.{CellId}
 use Rattle.cell_net.specs.declared.ids.TrainId.{TrainId}
 use Rattle.cell_net.specs.declared.labels.Labels.{Labels}

@@ -1,13 +1,19 @@
 ghost use Rattle.std.specs.Prelude.{◌≡◌, OnOk, OnErr};
 ghost use Rattle.vss_io.specs.Faults.{Rose};
 ghost use Rattle.vss_io.specs.Written.{followed_by, PutsFront};
+ghost use Rattle.vssplan.specs.Inputs.{limit as most_bytes, status_of};
 ghost use Rattle.vssplan.specs.Texts.{input_word, refusal_word, answer_text};
 
 use crate::breach::print_breach;
-use crate::judging::Breach;
+use crate::status::Status;
 use cell_net::Labels;
 use itoa::Buffer;
+use plan_checker::Breach;
 use vss_io::{Sink, SinkFault, print_line};
+
+const LONGEST_DOCUMENT: u64 = 16_777_216;
+
+const LONGEST_REPORT: u64 = 1_073_741_824;
 
 /// One of the three files that a task reads.
 #[derive(Clone, Copy, Debug, PartialEq, Eq)]
@@ -25,6 +31,16 @@ impl Input {
             Input::Network => b"network",
             Input::Timetable => b"timetable",
             Input::Report => b"report",
+        }
+    }
+
+    /// The most bytes of the file that are read.
+    pub fn limit(self) -> u64
+        ensures { result ≡ most_bytes self }
+    {
+        match self {
+            Input::Network | Input::Timetable => LONGEST_DOCUMENT,
+            Input::Report => LONGEST_REPORT,
         }
     }
 }
@@ -65,6 +81,18 @@ pub enum Answer {
 }
 
 impl Answer {
+    pub fn status(&self) -> Status
+        ensures { result ≡ status_of self.now }
+    {
+        match self {
+            Answer::Usage => Status::Words,
+            Answer::ReadFault(_) => Status::ReadFault,
+            Answer::Refused(_, _) => Status::Refused,
+            Answer::Lawful { .. } => Status::Done,
+            Answer::Breach { .. } => Status::Breach,
+        }
+    }
+
     /// Prints the answer's line, without memory.
     pub fn print<K: Sink>(&self, out: &mut K) -> Result<(), SinkFault>
         ensures front { PutsFront (K.written out.old) (K.written out.new) (answer_text self.now) }

@@ -5,10 +5,10 @@ ghost use Rattle.vssplan.specs.Lines.{flat, line};
 ghost use Rattle.vssplan.specs.PrintedNames.{cell_name, place_name, place_text};
 ghost use Rattle.vssplan.specs.Texts.{apart_text, breach_text, train_text};
 
-use crate::judging::Breach;
 use crate::names::{name_of_track, name_of_train};
 use cell_net::{CandidateId, CellId, Labels, PlaceLabel, TrainId};
 use itoa::Buffer;
+use plan_checker::Breach;
 use vss_io::{Sink, SinkFault, print_line};
 
 /// The pieces of a cell's name, as `t1`, `:` and `0`.

@@ -4,9 +4,11 @@
 mod answer;
 mod breach;
 mod documents;
-mod judging;
 mod names;
 mod report;
+mod run;
+mod status;
+mod stop;
 mod words;
 
 fn main() {}

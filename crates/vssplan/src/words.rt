@@ -1,6 +1,9 @@
 ghost use Rattle.std.specs.Prelude.{◌≡◌, ◌≢◌, ◌↔◌, IsTrue, Some, MatchOption, map, string_bytes, slice_get};
 ghost use Rattle.vssplan.specs.Words.{FileNames as Names, IsFileName, AskToJudge};
 ghost use Rattle.vssplan.specs.FileNames.{names_in};
+ghost use Rattle.vssplan.specs.Inputs.{name_of};
+
+use crate::answer::Input;
 
 /// The names of the three files of a task.
 #[derive(Clone, Copy, Debug)]
@@ -8,6 +11,19 @@ pub struct FileNames<'a> {
     pub network: &'a str,
     pub timetable: &'a str,
     pub report: &'a str,
+}
+
+impl FileNames<'_> {
+    /// The name of that file.
+    pub fn of(&self, input: Input) -> &str
+        ensures { result.now ≡ name_of (names_in self.now) input }
+    {
+        match input {
+            Input::Network => self.network,
+            Input::Timetable => self.timetable,
+            Input::Report => self.report,
+        }
+    }
 }
 
 /// Whether the word can name a file.
