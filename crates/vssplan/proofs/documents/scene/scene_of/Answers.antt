@@ -1,5 +1,5 @@
 -- The parts of a scene are short lists, and its labels are those of its instance.
-use Rattle.std.proofs.Common.{◌≤◌, length, arith}
+use Rattle.std.proofs.Common.{arith}
 use Rattle.cell_net.specs.Labelled.{AreLabelsOf}
 use Rattle.vssplan.proofs.SceneLemmas.{IsShort, short, labelled}
 use Rattle.vssplan.proofs.documents.scene.scene_of.Goals as goal
