@@ -77,11 +77,7 @@ short n bytes p l h =
     let few : length h.timetable.trains ≤ 32 = omega (arith, t.trains.at_most_32) in
     rw h.is_instance (short_line n h.timetable.grid h.timetable.trains t.coarse.cells t.coarse.candidates few)
 
--- a scene of the network that the bytes are the document of is one of the bytes
-pub scene_of_bytes : (network_bytes bytes : List ℕ) (n : LineNetwork) (p : InstanceParts) (l : Labels) → IsLineNetwork network_bytes n → IsTimetableScene n bytes p l → IsScene network_bytes bytes p l
-scene_of_bytes network_bytes bytes n p l is_network is_scene = record { network = n; is_network = is_network; is_scene = is_scene }
-
--- and without one of the network, the bytes have none
+-- without a scene of the network that the bytes are the document of, there is none of the bytes
 pub no_scene : (network_bytes bytes : List ℕ) (n : LineNetwork) → IsLineNetwork network_bytes n → ((p : InstanceParts) (l : Labels) → ¬ IsTimetableScene n bytes p l)
     → (p : InstanceParts) (l : Labels) → ¬ IsScene network_bytes bytes p l
 no_scene network_bytes bytes n is_network none p l h =
