@@ -1,16 +1,16 @@
 -- The parts and the labels of a scene fit each other, and are few.
-use Rattle.std.proofs.Common.{◌≡◌, ℕ, ◌+◌, ◌-◌, ◌<◌, ◌≤◌, List, [], ◌∷◌, length, map, get_or, All, refl, ap, sym, ◌∙◌, arith, subst}
+use Rattle.std.proofs.Common.{◌≡◌, ℕ, ◌<◌, ◌≤◌, List, [], ◌∷◌, length, map, get_or, All, refl, sym, ◌∙◌, arith, subst}
 use Rattle.std.specs.List.{AllZip, range_with_len}
 use Rattle.std.proofs.lemmas.List.FromFn.{length-map-range_with_len, get_or-map-range_with_len}
 use Rattle.cell_net.specs.Labelled.{AreLabelsOf, IsOnTrack}
 use Rattle.cell_net.specs.declared.trains.TrainSpec.{TrainSpec}
 use Rattle.cell_net.specs.declared.labels.CellLabel.{CellLabel}
-use Rattle.cell_net.specs.declared.labels.PlaceLabel.{PlaceLabel}
 use Rattle.cell_net.specs.declared.labels.Labels.{Labels}
 use Rattle.cell_net.specs.declared.parts.InstanceParts.{InstanceParts}
+use Rattle.vssplan.proofs.NetworkLemmas.{same_network}
+use Rattle.vssplan.specs.Network.{IsLineNetwork}
 use Rattle.vssplan.specs.Grid.{cell_count, cut_count}
-use Rattle.vssplan.specs.Timetable.{HasTrains}
-use Rattle.vssplan.specs.Scene.{IsTimetableScene, parts_of, labels_of, cell_label, cut_label}
+use Rattle.vssplan.specs.Scene.{IsScene, IsTimetableScene, parts_of, labels_of, cell_label, cut_label}
 use Rattle.vssplan.specs.declared.documents.network.LineNetwork.{LineNetwork}
 use Rattle.vssplan.specs.declared.documents.grid.Grid.{Grid}
 
@@ -76,3 +76,9 @@ short n bytes p l h =
     let trains : length h.timetable.trains ≡ length t.trains.items = zip_length _ t.trains.items h.timetable.trains t.trains.each in
     let few : length h.timetable.trains ≤ 32 = omega (arith, t.trains.at_most_32) in
     rw h.is_instance (short_line n h.timetable.grid h.timetable.trains t.coarse.cells t.coarse.candidates few)
+
+-- without a scene of the network that the bytes are the document of, there is none of the bytes
+pub no_scene : (network_bytes bytes : List ℕ) (n : LineNetwork) → IsLineNetwork network_bytes n → ((p : InstanceParts) (l : Labels) → ¬ IsTimetableScene n bytes p l)
+    → (p : InstanceParts) (l : Labels) → ¬ IsScene network_bytes bytes p l
+no_scene network_bytes bytes n is_network none p l h =
+    none p l (subst (λ m. IsTimetableScene m bytes p l) (same_network network_bytes h.network n h.is_network is_network) h.is_scene)

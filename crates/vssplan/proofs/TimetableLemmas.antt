@@ -3,18 +3,14 @@ use Rattle.std.proofs.Common.{◌≡◌, ◌≢◌, ℕ, List, [], ◌∷◌, Op
 use Rattle.std.specs.List.{AllZip}
 use Rattle.std.specs.declared.alloc.AllocError.{AllocError}
 use Rattle.serde_json.specs.Data.{Data}
-use Rattle.vssplan.specs.Members.{IsJson, HasNumber, list_at}
-use Rattle.vssplan.specs.Network.{IsNamed}
+use Rattle.vssplan.specs.Members.{IsNamed, IsJson, list_at}
 use Rattle.vssplan.specs.Grid.{HasGrid}
 use Rattle.vssplan.specs.Timetable.{HasTrains, IsTimetable, IsLineTimetable}
 use Rattle.vssplan.specs.declared.documents.network.LineNetwork.{LineNetwork}
 use Rattle.vssplan.specs.declared.documents.grid.Grid.{Grid}
 use Rattle.cell_net.specs.declared.trains.TrainSpec.{TrainSpec}
 use Rattle.vssplan.specs.declared.documents.timetable.LineTimetable.{LineTimetable}
-use Rattle.vssplan.proofs.MemberLemmas.{same_json}
-
-same_name : (d : Data) (a b : List ℕ) → IsNamed d a → IsNamed d b → a ≡ b
-same_name d a b one other = cc
+use Rattle.vssplan.proofs.MemberLemmas.{same_json, same_name, same_number}
 
 same_names : (items : List Data) (names others : List (List ℕ)) → AllZip IsNamed items names → AllZip IsNamed items others → names ≡ others
 same_names [] [] [] one other = refl
@@ -27,15 +23,12 @@ same_names (d ∷ ds) (a ∷ more) (b ∷ bs) one other =
     let rest : more ≡ bs = same_names ds more bs one.1 other.1 in
     cc
 
-same_number : (d : Data) (name : List ℕ) (low low' high m n : ℕ) → HasNumber d name low high m → HasNumber d name low' high n → m ≡ n
-same_number d name low low' high m n one other = cc
-
 -- a document states one grid alone
 pub same_grid : (d : Data) (g h : Grid) → HasGrid d g → HasGrid d h → g ≡ h
 same_grid d g h one other =
-    let space : g.space_step_m ≡ h.space_step_m = same_number d _ _ _ _ _ _ one.space_step_m other.space_step_m in
-    let time : g.time_step_s ≡ h.time_step_s = same_number d _ _ _ _ _ _ one.time_step_s other.time_step_s in
-    let horizon : g.horizon_s ≡ h.horizon_s = same_number d _ _ _ _ _ _ one.horizon_s other.horizon_s in
+    let space : g.space_step_m ≡ h.space_step_m = same_number d _ _ _ _ _ _ _ one.space_step_m other.space_step_m in
+    let time : g.time_step_s ≡ h.time_step_s = same_number d _ _ _ _ _ _ _ one.time_step_s other.time_step_s in
+    let horizon : g.horizon_s ≡ h.horizon_s = same_number d _ _ _ _ _ _ _ one.horizon_s other.horizon_s in
     λ i. record { space_step_m = space i; time_step_s = time i; horizon_s = horizon i }
 
 -- without trains on the grid that the document states, it has none on another

@@ -1,5 +1,5 @@
 -- The grid of a timetable: how the network's track is cut into cells, and time into steps.
-use Rattle.std.specs.Prelude.{ℕ, ◌+◌, ◌-◌, ◌/◌, ◌≤◌, codes}
+use Rattle.std.specs.Prelude.{ℕ, ◌-◌, ◌/◌, ◌≤◌, codes}
 use Rattle.std.specs.Int.{div_ceil}
 use Rattle.serde_json.specs.Data.{Data}
 use Rattle.vssplan.specs.Members.{HasNumber}

@@ -1,8 +1,9 @@
 -- Members: what an object of a document has under a name, as `serde_json` reads it.
-use Rattle.std.specs.Prelude.{◌≡◌, ℕ, ◌≤◌, List, [], ◌∷◌, Option, Some, None, option_map, option_and_then, IsUtf8}
+use Rattle.std.specs.Prelude.{◌≡◌, ℕ, ◌≤◌, List, [], ◌∷◌, Option, Some, None, option_map, option_and_then, IsUtf8, codes}
 use Rattle.serde_json.specs.Data.{Data, Items, no_items, item}
 use Rattle.serde_json.specs.Read.{read}
 use Rattle.serde_json.specs.Find.{get, as_str, as_number, as_u64, as_array}
+use Rattle.vssplan.specs.Names.{IsName}
 
 -- the bytes are the text of this JSON value
 pub record IsJson (bytes : List ℕ) (d : Data) : Type 0 where
@@ -29,6 +30,11 @@ list_at name d = option_map list_of (option_and_then as_array (get name d))
 -- the object has no member of that name
 unfoldable pub Lacks : List ℕ → Data → Type 0
 Lacks name d = get name d ≡ None
+
+-- an object with this name
+pub record IsNamed (d : Data) (name : List ℕ) : Type 0 where
+  pub says : text_at (codes "name") d ≡ Some name
+  pub is_name : IsName name
 
 -- the object has this number under the name, and it is from low to high
 pub record HasNumber (d : Data) (name : List ℕ) (low high n : ℕ) : Type 0 where

@@ -4,14 +4,8 @@ use Rattle.serde_json.specs.Data.{Data}
 use Rattle.serde_json.specs.Find.{as_str}
 use Rattle.cell_net.specs.declared.cells.End.{End}
 use Rattle.cell_net.specs.declared.cells.End.TheVariants.{Low, High}
-use Rattle.vssplan.specs.Names.{IsName}
-use Rattle.vssplan.specs.Members.{IsJson, HasNumber, text_at, list_at, Lacks}
+use Rattle.vssplan.specs.Members.{IsJson, IsNamed, HasNumber, text_at, list_at, Lacks}
 use Rattle.vssplan.specs.declared.documents.network.LineNetwork.{LineNetwork}
-
--- an object with this name
-pub record IsNamed (d : Data) (name : List ℕ) : Type 0 where
-  pub says : text_at (codes "name") d ≡ Some name
-  pub is_name : IsName name
 
 -- a node of the kind `end`, with this name
 pub record IsEndNode (d : Data) (name : List ℕ) : Type 0 where

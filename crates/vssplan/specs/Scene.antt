@@ -1,6 +1,6 @@
 -- The scene of two documents: the instance of the network's track and the timetable's trains, and the
 -- names of its cells, candidates and trains for people.
-use Rattle.std.specs.Prelude.{◌≡◌, ℕ, ◌+◌, ◌*◌, Bool, if◌then◌else◌, ◌==◌, List, [], ◌∷◌, map}
+use Rattle.std.specs.Prelude.{◌≡◌, ℕ, ◌+◌, ◌*◌, if◌then◌else◌, ◌==◌, List, [], ◌∷◌, map}
 use Rattle.std.specs.List.{range_with_len}
 use Rattle.cell_net.specs.declared.ids.NodeId.{NodeId}
 use Rattle.cell_net.specs.declared.cells.CellSpec.{CellSpec}

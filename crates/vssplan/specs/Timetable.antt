@@ -3,8 +3,7 @@ use Rattle.std.specs.Prelude.{◌≡◌, ◌≢◌, ℕ, ◌≤◌, List, Some, 
 use Rattle.std.specs.List.{AllZip}
 use Rattle.serde_json.specs.Data.{Data}
 use Rattle.cell_net.specs.declared.trains.TrainSpec.{TrainSpec}
-use Rattle.vssplan.specs.Members.{IsJson, list_at}
-use Rattle.vssplan.specs.Network.{IsNamed}
+use Rattle.vssplan.specs.Members.{IsJson, IsNamed, list_at}
 use Rattle.vssplan.specs.Grid.{HasGrid, IsCoarse}
 use Rattle.vssplan.specs.Trains.{IsTrain}
 use Rattle.vssplan.specs.declared.documents.network.LineNetwork.{LineNetwork}

@@ -7,5 +7,10 @@ mod names;
 mod network;
 mod parts;
 mod scene;
+#[cfg(test)]
+mod tests;
 mod timetable;
 mod trains;
+
+pub use network::{LineNetwork, line_network};
+pub use scene::scene_of;

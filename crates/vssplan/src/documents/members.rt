@@ -1,8 +1,7 @@
 ghost use Rattle.std.specs.Prelude.{◌≡◌, ◌≢◌, ◌↔◌, ℕ, List, [], ◌∷◌, Option, Some, IsTrue, IfOk, MatchOption, map, option_map};
 ghost use Rattle.serde_json.specs.Data.{Data};
 ghost use Rattle.serde_json.specs.View.{view};
-ghost use Rattle.vssplan.specs.Members.{IsJson, HasNumber, MayHaveNumber, text_at, number_at, list_at, Lacks};
-ghost use Rattle.vssplan.specs.Network.{IsNamed};
+ghost use Rattle.vssplan.specs.Members.{IsJson, IsNamed, HasNumber, MayHaveNumber, text_at, number_at, list_at, Lacks};
 
 use super::names::is_name;
 use serde_json::Value;

@@ -1,9 +1,10 @@
-ghost use Rattle.std.specs.Prelude.{◌≡◌, ◌⊎◌, ◌<◌, ◌^◌, length, IfOk, IfErr, MatchOption};
+ghost use Rattle.std.specs.Prelude.{◌≡◌, ◌⊎◌, ◌<◌, ◌^◌, ℕ, List, length, IfOk, IfErr, MatchOption};
 ghost use Rattle.cell_net.specs.Labelled.{AreLabelsOf};
 ghost use Rattle.cell_net.specs.Refusals.{IsRefusal};
 ghost use Rattle.vssplan.specs.Grid.{IsGrid, IsCoarse};
+ghost use Rattle.vssplan.specs.Network.{IsLineNetwork};
 ghost use Rattle.vssplan.specs.Timetable.{IsLineTimetable};
-ghost use Rattle.vssplan.specs.Scene.{IsTimetableScene, parts_of, labels_of};
+ghost use Rattle.vssplan.specs.Scene.{IsScene, IsTimetableScene, parts_of, labels_of};
 
 use super::labels::line_labels;
 use super::network::LineNetwork;
@@ -55,9 +56,9 @@ pub fn scene_of(
     network: LineNetwork,
     bytes: &[u8],
 ) -> Result<Option<Scene>, BuildRefusal>
-    ensures scene { IfOk result (λ found. MatchOption found
-        ((p : InstanceParts) (l : Labels) → ¬ IsTimetableScene network bytes.now p l)
-        (λ s. IsTimetableScene network bytes.now s.inst s.labels)) }
+    ensures scene { IfOk result (λ found. (network_bytes : List ℕ) → IsLineNetwork network_bytes network
+        → MatchOption found ((p : InstanceParts) (l : Labels) → ¬ IsScene network_bytes bytes.now p l)
+        (λ s. IsScene network_bytes bytes.now s.inst s.labels)) }
     ensures refusal { IfErr result (λ r. (r ≡ BuildRefusal.Memory)
         ⊎ ((p : InstanceParts) × (l : Labels) × IsTimetableScene network bytes.now p l × IsRefusal p r)) }
 {

@@ -1,7 +1,7 @@
 ghost use Rattle.std.specs.Prelude.{◌≡◌, ◌≢◌, ◌↔◌, ℕ, List, IsTrue, IfOk, MatchOption, AllPairs, Contains, map};
 ghost use Rattle.std.specs.List.{AllZip};
 ghost use Rattle.serde_json.specs.View.{view};
-ghost use Rattle.vssplan.specs.Network.{IsNamed};
+ghost use Rattle.vssplan.specs.Members.{IsNamed};
 ghost use Rattle.vssplan.specs.Grid.{HasGrid, IsGrid, IsCoarse, cell_count as cells_of_track};
 ghost use Rattle.vssplan.specs.Trains.{IsTrain};
 ghost use Rattle.vssplan.specs.Timetable.{HasTrains, IsTimetable, IsLineTimetable};

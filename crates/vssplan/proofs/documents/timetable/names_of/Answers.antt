@@ -1,6 +1,6 @@
 -- A name is read of each item, or there are no such names.
 use Rattle.serde_json.specs.View.{view}
-use Rattle.vssplan.specs.Network.{IsNamed}
+use Rattle.vssplan.specs.Members.{IsNamed}
 use Rattle.vssplan.proofs.ZipLemmas.{zip_more, zip_none}
 use Rattle.vssplan.proofs.documents.timetable.names_of.Goals as goal
 

@@ -2,7 +2,7 @@
 use Rattle.std.proofs.Common.{map, take}
 use Rattle.std.specs.List.{AllZip}
 use Rattle.serde_json.specs.View.{view}
-use Rattle.vssplan.specs.Network.{IsNamed}
+use Rattle.vssplan.specs.Members.{IsNamed}
 use Rattle.vssplan.proofs.documents.timetable.names_of.Given as goal
 
 abbrev pub invariant-loop-item : goal.invariant-loop-item
