@@ -7,9 +7,11 @@ pub mod Numbers
 pub mod Options
 pub mod Pieces
 pub mod Places
+pub mod Readings
 pub mod RowLemmas
 pub mod Runs
 pub mod SceneLemmas
+pub mod Sweeps
 pub mod TimetableLemmas
 pub mod TrainLemmas
 pub mod ZipLemmas

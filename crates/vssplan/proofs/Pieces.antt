@@ -20,8 +20,8 @@ flat_inner x y z e rest made =
 -- the line of two trains that aren't apart, from the pieces of the two cells' names
 pub apart_line : (a b step x y z u v w e f : List ℕ) → flat (x ∷ y ∷ z ∷ []) ≡ e → flat (u ∷ v ∷ w ∷ []) ≡ f
     → line (flat (codes "breach apart " ∷ a ∷ codes " " ∷ b ∷ codes " " ∷ step ∷ codes " " ∷ x ∷ y ∷ z ∷ codes " " ∷ u ∷ v ∷ w ∷ []))
-        ≡ line (flat (codes "breach apart " ∷ a ∷ codes " " ∷ b ∷ codes " " ∷ step ∷ codes " " ∷ e ∷ codes " " ∷ f ∷ []))
+    ≡ line (flat (codes "breach apart " ∷ a ∷ codes " " ∷ b ∷ codes " " ∷ step ∷ codes " " ∷ e ∷ codes " " ∷ f ∷ []))
 apart_line a b step x y z u v w e f made also =
     let cells : x ++ (y ++ (z ++ 32 ∷ (u ++ (v ++ (w ++ []))))) ≡ e ++ 32 ∷ (f ++ []) =
-        flat_inner x y z e (32 ∷ (u ++ (v ++ (w ++ [])))) made ∙ ap (λ (rest : List ℕ). e ++ 32 ∷ rest) (flat_inner u v w f [] also) in
+    flat_inner x y z e (32 ∷ (u ++ (v ++ (w ++ [])))) made ∙ ap (λ (rest : List ℕ). e ++ 32 ∷ rest) (flat_inner u v w f [] also) in
     ap (λ (rest : List ℕ). line (codes "breach apart " ++ (a ++ 32 ∷ (b ++ 32 ∷ (step ++ 32 ∷ rest))))) cells

@@ -1,5 +1,5 @@
 -- The parts and the labels of a scene fit each other, and are few.
-use Rattle.std.proofs.Common.{◌≡◌, ℕ, ◌<◌, ◌≤◌, List, [], ◌∷◌, length, map, get_or, All, refl, sym, ◌∙◌, arith, subst}
+use Rattle.std.proofs.Common.{◌≡◌, ℕ, zero, suc, ◌+◌, ◌^◌, ◌<◌, ◌≤◌, List, [], ◌∷◌, length, map, slice_index_or, get_or, All, refl, sym, ◌∙◌, arith, subst}
 use Rattle.std.specs.List.{AllZip, range_with_len}
 use Rattle.std.proofs.lemmas.List.FromFn.{length-map-range_with_len, get_or-map-range_with_len}
 use Rattle.cell_net.specs.Labelled.{AreLabelsOf, IsOnTrack}
@@ -7,8 +7,11 @@ use Rattle.cell_net.specs.declared.trains.TrainSpec.{TrainSpec}
 use Rattle.cell_net.specs.declared.labels.CellLabel.{CellLabel}
 use Rattle.cell_net.specs.declared.labels.Labels.{Labels}
 use Rattle.cell_net.specs.declared.parts.InstanceParts.{InstanceParts}
+use Rattle.serde_json.specs.Data.{Data}
 use Rattle.vssplan.proofs.NetworkLemmas.{same_network}
+use Rattle.cell_net.specs.Rules.{HasFewStops}
 use Rattle.vssplan.specs.Network.{IsLineNetwork}
+use Rattle.vssplan.specs.Trains.{IsTrain}
 use Rattle.vssplan.specs.Grid.{cell_count, cut_count}
 use Rattle.vssplan.specs.Scene.{IsScene, IsTimetableScene, parts_of, labels_of, cell_label, cut_label}
 use Rattle.vssplan.specs.declared.documents.network.LineNetwork.{LineNetwork}
@@ -82,3 +85,17 @@ pub no_scene : (network_bytes bytes : List ℕ) (n : LineNetwork) → IsLineNetw
     → (p : InstanceParts) (l : Labels) → ¬ IsScene network_bytes bytes p l
 no_scene network_bytes bytes n is_network none p l h =
     none p l (subst (λ m. IsTimetableScene m bytes p l) (same_network network_bytes h.network n h.is_network is_network) h.is_scene)
+
+-- no train of the timetable stops
+no_stops_at : (n : LineNetwork) (g : Grid) (ds : List Data) (ss : List TrainSpec) → AllZip (IsTrain n g) ds ss →
+    (k : ℕ) (d : TrainSpec) → k < length ss → length (slice_index_or ss k d).stops < 2 ^ 32
+no_stops_at n g [] [] all k d low = absurd (omega arith)
+no_stops_at n g [] (s ∷ ss) all k d low = absurd all
+no_stops_at n g (x ∷ ds) [] all k d low = absurd all
+no_stops_at n g (x ∷ ds) (s ∷ ss) all zero d low = rw all.0.is_train (omega arith)
+no_stops_at n g (x ∷ ds) (s ∷ ss) all (suc k) d low = no_stops_at n g ds ss all.1 k d (omega arith)
+
+pub few_stops : (n : LineNetwork) (bytes : List ℕ) (p : InstanceParts) (l : Labels) → IsTimetableScene n bytes p l → HasFewStops p
+few_stops n bytes p l h =
+    let each = h.is_timetable.is_timetable.trains.each in
+    subst HasFewStops (sym h.is_instance) (no_stops_at n h.timetable.grid _ h.timetable.trains each)

@@ -6,7 +6,7 @@ use Rattle.vss_io.specs.Written.{followed_by, PutsFront}
 use Rattle.vssplan.specs.Words.{FileNames, AskToJudge}
 use Rattle.vssplan.specs.Inputs.{name_of, limit, status_of}
 use Rattle.vssplan.specs.Network.{IsLineNetwork}
-use Rattle.vssplan.specs.Scene.{IsScene, IsTimetableScene}
+use Rattle.vssplan.specs.Scene.{IsScene}
 use Rattle.vssplan.specs.Report.{IsDesign}
 use Rattle.plan_checker.specs.Verdicts.{IsFirstBreach}
 use Rattle.vssplan.specs.Texts.{answer_text}
@@ -82,7 +82,7 @@ pub record IsNoTimetable (files : Files) (names : FileNames) : Type 0 where
   pub has_network : HasNetwork files names network
   pub bytes : List ℕ
   pub is_read : IsRead files names Timetable bytes
-  pub is_none : (parts : InstanceParts) (labels : Labels) → ¬ IsTimetableScene network bytes parts labels
+  pub is_none : (parts : InstanceParts) (labels : Labels) → ¬ IsScene has_network.bytes bytes parts labels
 
 -- both documents are accepted, and the file of the report was read
 pub record IsNoReport (files : Files) (names : FileNames) : Type 0 where

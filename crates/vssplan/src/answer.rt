@@ -106,11 +106,20 @@ impl Answer {
             ),
             Answer::ReadFault(input) => print_line(&[b"read fault ", input.word()], out),
             Answer::Refused(input, refusal) => print_line(
-                &[b"refused ", input.word(), b" ", refusal.word(), b" document 0"],
+                &[
+                    b"refused ",
+                    input.word(),
+                    b" ",
+                    refusal.word(),
+                    b" document 0",
+                ],
                 out,
             ),
             Answer::Lawful { borders } => {
-                print_line(&[b"lawful ", Buffer::new().format(*borders).as_bytes()], out)
+                print_line(
+                    &[b"lawful ", Buffer::new().format(*borders).as_bytes()],
+                    out,
+                )
             }
             Answer::Breach { breach, labels } => print_breach(labels, breach, out),
         }

@@ -61,7 +61,11 @@ pub fn print_breach<K: Sink>(labels: &Labels, breach: &Breach, out: &mut K) -> R
 }
 
 /// Prints that the layout lacks a kept border.
-fn print_border<K: Sink>(labels: &Labels, candidate: CandidateId, out: &mut K) -> Result<(), SinkFault>
+fn print_border<K: Sink>(
+    labels: &Labels,
+    candidate: CandidateId,
+    out: &mut K,
+) -> Result<(), SinkFault>
     ensures front { PutsFront (K.written out.old) (K.written out.new) (line (codes "breach border " ++ place_name labels.now candidate)) }
     ensures whole { OnOk result (K.written out.new ≡ followed_by (K.written out.old) (line (codes "breach border " ++ place_name labels.now candidate))) }
     ensures cause { OnErr result (Rose (K.faults out.old) (K.faults out.new)) }
@@ -134,8 +138,20 @@ fn print_apart<K: Sink>(
     let (f_track, f_colon, f_index) = (f.track, f.colon, f.index);
     print_line(
         &[
-            b"breach apart ", a, b" ", b, b" ", step, b" ", e_track, e_colon, e_index, b" ", f_track,
-            f_colon, f_index,
+            b"breach apart ",
+            a,
+            b" ",
+            b,
+            b" ",
+            step,
+            b" ",
+            e_track,
+            e_colon,
+            e_index,
+            b" ",
+            f_track,
+            f_colon,
+            f_index,
         ],
         out,
     )

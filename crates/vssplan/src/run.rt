@@ -18,12 +18,7 @@ use vss_io::{Shelf, ShelfFault, Sink};
 
 /// Runs the task that the words ask for, with files from the shelf, and writes what it has to say.
 /// Everything is computed before the first byte is written, and printing takes no memory.
-pub fn run<H: Shelf, K: Sink>(
-    alloc: Global,
-    words: &[String],
-    shelf: &mut H,
-    out: &mut K,
-) -> Status
+pub fn run<H: Shelf, K: Sink>(alloc: Global, words: &[String], shelf: &mut H, out: &mut K) -> Status
     ensures ends { Ends (map string_bytes words.now) (shown (H.tells shelf.old) (H.file shelf.old) (H.faults shelf.old))
         (H.faults shelf.new) (K.written out.old) (K.written out.new) result }
     ensures write_fault { result ≡ Status.WriteFault → Rose (K.faults out.old) (K.faults out.new) }
@@ -38,11 +33,7 @@ pub fn run<H: Shelf, K: Sink>(
 }
 
 /// What there is to say to the words.
-fn answer<H: Shelf>(
-    alloc: Global,
-    words: &[String],
-    shelf: &mut H,
-) -> Result<Answer, AllocError>
+fn answer<H: Shelf>(alloc: Global, words: &[String], shelf: &mut H) -> Result<Answer, AllocError>
     ensures { IfOk result (IsRight (map string_bytes words.now)
         (shown (H.tells shelf.old) (H.file shelf.old) (H.faults shelf.old)) (H.faults shelf.new)) }
 {
@@ -62,8 +53,10 @@ fn judged<H: Shelf>(alloc: Global, names: &FileNames, shelf: &mut H) -> Result<A
     ensures stop { IfErr result (IsRightStop (shown (H.tells shelf.old) (H.file shelf.old) (H.faults shelf.old)) (H.faults shelf.new) (names_in names.now)) }
 {
     let scene = read_scene(alloc, names, shelf)?;
-    let report = read_input(shelf, names, Input::Report)?;
-    judge_report(alloc, scene, report.as_slice())
+    match read_input(shelf, names, Input::Report) {
+        Ok(report) => judge_report(alloc, scene, report.as_slice()),
+        Err(stop) => Err(stop),
+    }
 }
 
 /// Judges the plan of a report for the scene.

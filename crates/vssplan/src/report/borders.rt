@@ -39,10 +39,15 @@ impl<'a> PlaceName<'a> {
         ensures { IsTrue result ↔ IsPlaceOf labels.now self.now place.now }
     {
         match (self, place) {
-            (PlaceName::Cut { track, at_m }, PlaceLabel::Cut { track: number, at_m: metres }) => {
-                *metres == u64::from(*at_m) && name_of_track(labels, *number) == *track
-            }
-            (PlaceName::Joint { name }, PlaceLabel::Joint { name: joint }) => joint.as_bytes() == *name,
+            (
+                PlaceName::Cut { track, at_m },
+                PlaceLabel::Cut {
+                    track: number,
+                    at_m: metres,
+                },
+            ) => { *metres == u64::from(*at_m) && name_of_track(labels, *number) == *track }
+            (PlaceName::Joint { name }, PlaceLabel::Joint { name: joint }) => joint.as_bytes()
+                == *name,
             _ => false,
         }
     }

@@ -40,7 +40,12 @@ fn take_sweeps(alloc: Global, cells: &Cells, cursor: &mut Cursor) -> Result<Vec<
 }
 
 /// Reads the run of the train of that name: its first step, and one or more sweeps.
-fn take_run(alloc: Global, cells: &Cells, train: &[u8], cursor: &mut Cursor) -> Result<TrainRun, Unread>
+fn take_run(
+    alloc: Global,
+    cells: &Cells,
+    train: &[u8],
+    cursor: &mut Cursor,
+) -> Result<TrainRun, Unread>
     ensures read { IfOk result (λ run. cursor.old ≡ run_text cells.now.labels.now train.now run ++ cursor.new) }
     ensures fit { IfOk result (IsReportRun cells.now.labels.now) }
 {
@@ -60,7 +65,12 @@ fn take_run(alloc: Global, cells: &Cells, train: &[u8], cursor: &mut Cursor) -> 
 }
 
 /// Reads one run for each of the trains in turn.
-pub fn take_runs(alloc: Global, cells: &Cells, trains: &[Text], cursor: &mut Cursor) -> Result<Vec<TrainRun>, Unread>
+pub fn take_runs(
+    alloc: Global,
+    cells: &Cells,
+    trains: &[Text],
+    cursor: &mut Cursor,
+) -> Result<Vec<TrainRun>, Unread>
     ensures read { IfOk result (λ runs. cursor.old ≡ runs_text cells.now.labels.now trains.now runs.items ++ cursor.new) }
     ensures one_each { IfOk result (λ runs. length runs.items ≡ length trains.now) }
     ensures fit { IfOk result (λ runs. All (IsReportRun cells.now.labels.now) runs.items) }

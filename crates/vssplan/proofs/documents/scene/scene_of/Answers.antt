@@ -1,7 +1,7 @@
 -- The parts of a scene are short lists, and its labels are those of its instance.
 use Rattle.std.proofs.Common.{arith}
 use Rattle.cell_net.specs.Labelled.{AreLabelsOf}
-use Rattle.vssplan.proofs.SceneLemmas.{IsShort, no_scene, short, labelled}
+use Rattle.vssplan.proofs.SceneLemmas.{IsShort, few_stops, no_scene, short, labelled}
 use Rattle.vssplan.proofs.documents.scene.scene_of.Goals as goal
 
 pub build-requires-clause-cells : goal.build-requires-clause-cells
@@ -38,3 +38,8 @@ pub returns-in-Ok-None-clause-scene : goal.returns-in-Ok-None-clause-scene
 returns-in-Ok-None-clause-scene c = λ network_bytes is_network.
     let none = rw c.in-Ok-None.field-0-is at c.in-Ok-None.ensures in
     no_scene network_bytes _ _ is_network none
+
+pub build-requires-clause-stops : goal.build-requires-clause-stops
+build-requires-clause-stops c =
+    let is_scene = rw c.in-Ok-Some.field-0-is at c.in-Ok-Some.ensures in
+    few_stops _ _ _ _ is_scene
