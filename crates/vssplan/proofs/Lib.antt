@@ -1,0 +1,17 @@
+pub mod Design
+pub mod FourItems
+pub mod MemberLemmas
+pub mod NameLemmas
+pub mod NetworkLemmas
+pub mod Numbers
+pub mod Options
+pub mod Pieces
+pub mod Places
+pub mod Readings
+pub mod RowLemmas
+pub mod Runs
+pub mod SceneLemmas
+pub mod Sweeps
+pub mod TimetableLemmas
+pub mod TrainLemmas
+pub mod ZipLemmas

@@ -1,0 +1,12 @@
+use Rattle.std.proofs.Common.{◌≡◌, ◌<◌, ◌++◌, All, length}
+use Rattle.std.specs.List.{AllAdjacentBelow, flat_map}
+use Rattle.vssplan.specs.Report.{HasPlaceName, border_text}
+use Rattle.vssplan.proofs.report.borders.take_borders.Given as goal
+
+abbrev pub invariant-loop : goal.invariant-loop
+invariant-loop l =
+    (l.fn.cursor ≡ flat_map (border_text l.labels) l.borders.items ++ l.cursor)
+    × (length l.borders.items ≡ l.counter)
+    × All (λ b. b.0 < l.from) l.borders.items
+    × AllAdjacentBelow (λ b c. b.0 < c.0) l.borders.items (length l.borders.items)
+    × All (HasPlaceName l.labels) l.borders.items

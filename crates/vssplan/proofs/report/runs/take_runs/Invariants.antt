@@ -1,0 +1,9 @@
+use Rattle.std.proofs.Common.{◌≡◌, ◌++◌, All, length, take}
+use Rattle.vssplan.specs.Report.{IsReportRun, runs_text}
+use Rattle.vssplan.proofs.report.runs.take_runs.Given as goal
+
+abbrev pub invariant-loop-train : goal.invariant-loop-train
+invariant-loop-train l =
+    (l.fn.cursor ≡ runs_text l.cells.labels.now (take l.train-index l.trains) l.runs.items ++ l.cursor)
+    × (length l.runs.items ≡ l.train-index)
+    × All (IsReportRun l.cells.labels.now) l.runs.items

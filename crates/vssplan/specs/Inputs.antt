@@ -1,0 +1,29 @@
+-- The three files of a task, and the statuses of answers.
+use Rattle.std.specs.Prelude.{ℕ, List}
+use Rattle.vssplan.specs.Words.{FileNames}
+use Rattle.vssplan.specs.declared.answer.Input.{Input}
+use Rattle.vssplan.specs.declared.answer.Input.TheVariants.{Network, Timetable, Report}
+use Rattle.vssplan.specs.declared.answer.Answer.{Answer}
+use Rattle.vssplan.specs.declared.answer.Answer.TheVariants as answer
+use Rattle.vssplan.specs.declared.status.Status.{Status}
+use Rattle.vssplan.specs.declared.status.Status.TheVariants as status
+
+-- of the three names, the one of this file
+abbrev pub name_of : FileNames → Input → List ℕ
+name_of names Network = names.network
+name_of names Timetable = names.timetable
+name_of names Report = names.report
+
+-- the most bytes of a file that are read
+abbrev pub limit : Input → ℕ
+limit Network = 16777216
+limit Timetable = 16777216
+limit Report = 1073741824
+
+-- the status of an answer
+abbrev pub status_of : Answer → Status
+status_of answer.Usage = status.Words
+status_of (answer.ReadFault input) = status.ReadFault
+status_of (answer.Refused input refusal) = status.Refused
+status_of (answer.Lawful borders) = status.Done
+status_of (answer.Breach breach labels) = status.Breach

@@ -1,0 +1,17 @@
+pub mod FileNames
+pub mod Grid
+pub mod Inputs
+pub mod Lines
+pub mod Members
+pub mod Names
+pub mod Network
+pub mod PlaceNames
+pub mod PrintedNames
+pub mod Report
+pub mod Run
+pub mod Scene
+pub mod Stops
+pub mod Texts
+pub mod Timetable
+pub mod Trains
+pub mod Words

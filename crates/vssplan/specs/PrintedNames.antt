@@ -1,0 +1,35 @@
+-- The names for people in printed texts and reports, as bytes: of trains, cells and places of borders.
+use Rattle.std.specs.Prelude.{ℕ, List, [], ◌∷◌, ◌++◌, Option, Some, None, slice_get, unwrap_or, codes, decimal}
+use Rattle.vssplan.specs.Lines.{flat}
+use Rattle.cell_net.specs.declared.ids.CellId.{CellId}
+use Rattle.cell_net.specs.declared.ids.CandidateId.{CandidateId}
+use Rattle.cell_net.specs.declared.ids.TrainId.{TrainId}
+use Rattle.cell_net.specs.declared.labels.CellLabel.{CellLabel}
+use Rattle.cell_net.specs.declared.labels.PlaceLabel.{PlaceLabel}
+use Rattle.cell_net.specs.declared.labels.PlaceLabel.TheVariants.{Cut, Joint}
+use Rattle.cell_net.specs.declared.labels.Labels.{Labels}
+
+-- the name of the track of that number; nothing where there is none
+abbrev pub track_name : Labels → ℕ → List ℕ
+track_name labels track = unwrap_or (slice_get labels.tracks track) []
+
+-- the name of the train; nothing where there is none
+abbrev pub train_name : Labels → TrainId → List ℕ
+train_name labels train = unwrap_or (slice_get labels.trains train.0) []
+
+-- a cell's track and its number on it, as `t1:0`
+abbrev pub label_text : Labels → Option CellLabel → List ℕ
+label_text labels (Some label) = flat (track_name labels label.track ∷ codes ":" ∷ decimal label.index ∷ [])
+label_text labels None = []
+
+abbrev pub cell_name : Labels → CellId → List ℕ
+cell_name labels cell = label_text labels (slice_get labels.cells cell.0)
+
+-- where a border stands, as `cut t1 500` or `joint J`
+abbrev pub place_text : Labels → Option PlaceLabel → List ℕ
+place_text labels (Some (Cut track at_m)) = flat (codes "cut " ∷ track_name labels track ∷ codes " " ∷ decimal at_m ∷ [])
+place_text labels (Some (Joint name)) = flat (codes "joint " ∷ name ∷ [])
+place_text labels None = []
+
+abbrev pub place_name : Labels → CandidateId → List ℕ
+place_name labels candidate = place_text labels (slice_get labels.places candidate.0)

@@ -1,0 +1,169 @@
+-- What a run reads and what it answers.
+use Rattle.std.specs.Prelude.{◌≡◌, ◌≤◌, ℕ, Bool, List, length, Option, Some, IsTrue}
+use Rattle.vss_io.specs.Faults.{Rose}
+use Rattle.vss_io.specs.Shelf.{IsLongerThan}
+use Rattle.vss_io.specs.Written.{followed_by, PutsFront}
+use Rattle.vssplan.specs.Words.{FileNames, AskToJudge}
+use Rattle.vssplan.specs.Inputs.{name_of, limit, status_of}
+use Rattle.vssplan.specs.Network.{IsLineNetwork}
+use Rattle.vssplan.specs.Scene.{IsScene}
+use Rattle.vssplan.specs.Report.{IsDesign}
+use Rattle.plan_checker.specs.Verdicts.{IsFirstBreach}
+use Rattle.vssplan.specs.Texts.{answer_text}
+use Rattle.cell_net.specs.Plans.{IsLawful}
+use Rattle.cell_net.specs.declared.ids.CandidateId.{CandidateId}
+use Rattle.cell_net.specs.declared.labels.Labels.{Labels}
+use Rattle.cell_net.specs.declared.parts.InstanceParts.{InstanceParts}
+use Rattle.cell_net.specs.declared.plans.Plan.{Plan}
+use Rattle.vssplan.specs.declared.documents.network.LineNetwork.{LineNetwork}
+use Rattle.vssplan.specs.declared.answer.Input.{Input}
+use Rattle.vssplan.specs.declared.answer.Input.TheVariants.{Network, Timetable, Report}
+use Rattle.vssplan.specs.declared.answer.Refusal.{Refusal}
+use Rattle.vssplan.specs.declared.answer.Refusal.TheVariants.{NotYet, FileTooLong}
+use Rattle.vssplan.specs.declared.answer.Answer.{Answer}
+use Rattle.vssplan.specs.declared.answer.Answer.TheVariants as answer
+use Rattle.plan_checker.specs.declared.judging.Breach.{Breach}
+use Rattle.vssplan.specs.declared.status.Status.{Status}
+use Rattle.vssplan.specs.declared.status.Status.TheVariants as status
+
+-- what a shelf shows: whether it tells its files, the files, and how often the reading of a name failed
+pub record Files : Type 0 where
+  pub tells : Bool
+  pub file : List ℕ → Option (List ℕ)
+  pub faults : List ℕ → ℕ
+
+abbrev pub shown : Bool → (List ℕ → Option (List ℕ)) → (List ℕ → ℕ) → Files
+shown tells file faults = record { tells = tells; file = file; faults = faults }
+
+-- reading changes no file, and no count of faults falls
+pub record Keeps (before after : Files) : Type 0 where
+  pub same_tells : after.tells ≡ before.tells
+  pub same_files : (name : List ℕ) → after.file name ≡ before.file name
+  pub never_falls : (name : List ℕ) → before.faults name ≤ after.faults name
+
+-- these are the bytes of the file, no more than are read, where the shelf tells its files
+pub record IsRead (files : Files) (names : FileNames) (input : Input) (bytes : List ℕ) : Type 0 where
+  pub short : length bytes ≤ limit input
+  pub told : IsTrue files.tells → files.file (name_of names input) ≡ Some bytes
+
+-- the file has more bytes than are read, where the shelf tells its files
+abbrev pub IsTooLong : Files → FileNames → Input → Type 0
+IsTooLong files names input = IsTrue files.tells → IsLongerThan (limit input) (files.file (name_of names input))
+
+-- the file of the network is accepted: its bytes are the document of this network
+pub record HasNetwork (files : Files) (names : FileNames) (network : LineNetwork) : Type 0 where
+  pub bytes : List ℕ
+  pub is_read : IsRead files names Network bytes
+  pub is_network : IsLineNetwork bytes network
+
+-- the files of both documents are accepted: this is their scene
+pub record HasScene (files : Files) (names : FileNames) (parts : InstanceParts) (labels : Labels) : Type 0 where
+  pub network : List ℕ
+  pub timetable : List ℕ
+  pub network_read : IsRead files names Network network
+  pub timetable_read : IsRead files names Timetable timetable
+  pub is_scene : IsScene network timetable parts labels
+
+-- the files before this one are accepted
+abbrev pub IsReached : Files → FileNames → Input → Type 0
+IsReached files names Network = Unit {0}
+IsReached files names Timetable = (network : LineNetwork) × HasNetwork files names network
+IsReached files names Report = (parts : InstanceParts) × (labels : Labels) × HasScene files names parts labels
+
+-- the file of the network was read, and is no document of a network
+pub record IsNoNetwork (files : Files) (names : FileNames) : Type 0 where
+  pub bytes : List ℕ
+  pub is_read : IsRead files names Network bytes
+  pub is_none : (network : LineNetwork) → ¬ IsLineNetwork bytes network
+
+-- the file of the network is accepted, and that of the timetable was read and makes no scene with it
+pub record IsNoTimetable (files : Files) (names : FileNames) : Type 0 where
+  pub network : LineNetwork
+  pub has_network : HasNetwork files names network
+  pub bytes : List ℕ
+  pub is_read : IsRead files names Timetable bytes
+  pub is_none : (parts : InstanceParts) (labels : Labels) → ¬ IsScene has_network.bytes bytes parts labels
+
+-- both documents are accepted, and the file of the report was read
+pub record IsNoReport (files : Files) (names : FileNames) : Type 0 where
+  pub parts : InstanceParts
+  pub labels : Labels
+  pub has_scene : HasScene files names parts labels
+  pub bytes : List ℕ
+  pub is_read : IsRead files names Report bytes
+
+-- the file is the first that isn't accepted
+abbrev pub IsRefused : Files → FileNames → Input → Refusal → Type 0
+IsRefused files names input FileTooLong = IsReached files names input × IsTooLong files names input
+IsRefused files names Network NotYet = IsNoNetwork files names
+IsRefused files names Timetable NotYet = IsNoTimetable files names
+IsRefused files names Report NotYet = IsNoReport files names
+
+-- the report has a design for the scene whose plan is lawful for the layout, of so many borders
+pub record IsLawfulReport (parts : InstanceParts) (labels : Labels) (report : List ℕ) (count : ℕ) : Type 0 where
+  pub borders : List CandidateId
+  pub plan : Plan
+  pub is_design : IsDesign labels report borders plan
+  pub lawful : IsLawful parts borders plan
+  pub count_is : count ≡ length borders
+
+-- the report has a design for the scene whose plan isn't lawful for the layout; this is the first breach
+pub record IsUnlawfulReport (parts : InstanceParts) (labels : Labels) (report : List ℕ) (breach : Breach) : Type 0 where
+  pub borders : List CandidateId
+  pub plan : Plan
+  pub is_design : IsDesign labels report borders plan
+  pub unlawful : ¬ IsLawful parts borders plan
+  pub first : IsFirstBreach parts borders plan breach
+
+-- all three files are accepted, and the plan of the report is lawful
+pub record IsFoundLawful (files : Files) (names : FileNames) (count : ℕ) : Type 0 where
+  pub parts : InstanceParts
+  pub labels : Labels
+  pub has_scene : HasScene files names parts labels
+  pub report : List ℕ
+  pub report_read : IsRead files names Report report
+  pub lawful : IsLawfulReport parts labels report count
+
+-- all three files are accepted, and the plan of the report isn't lawful
+pub record IsFoundUnlawful (files : Files) (names : FileNames) (breach : Breach) (labels : Labels) : Type 0 where
+  pub parts : InstanceParts
+  pub has_scene : HasScene files names parts labels
+  pub report : List ℕ
+  pub report_read : IsRead files names Report report
+  pub unlawful : IsUnlawfulReport parts labels report breach
+
+-- the answer about these files is right, with the counts of faults as they were before the run and as
+-- they are after it
+abbrev pub IsRightFor : Files → (List ℕ → ℕ) → FileNames → Answer → Type 0
+IsRightFor files faults names answer.Usage = ⊥
+IsRightFor files faults names (answer.ReadFault input) =
+    IsReached files names input × Rose (files.faults (name_of names input)) (faults (name_of names input))
+IsRightFor files faults names (answer.Refused input refusal) = IsRefused files names input refusal
+IsRightFor files faults names (answer.Lawful borders) = IsFoundLawful files names borders
+IsRightFor files faults names (answer.Breach breach labels) = IsFoundUnlawful files names breach labels
+
+-- the answer to the words is right: the usage just where they ask for no task, and else what is right
+-- for the files that they name
+abbrev pub IsRight : List (List ℕ) → Files → (List ℕ → ℕ) → Answer → Type 0
+IsRight words files faults answer.Usage = (names : FileNames) → ¬ AskToJudge words names
+IsRight words files faults said = (names : FileNames) × AskToJudge words names × IsRightFor files faults names said
+
+-- a right answer was printed whole, and this is its status
+pub record Says (words : List (List ℕ)) (files : Files) (faults : List ℕ → ℕ) (before now : Option (List ℕ)) (ended : Status) : Type 0 where
+  pub said : Answer
+  pub right : IsRight words files faults said
+  pub printed : now ≡ followed_by before (answer_text said)
+  pub status_is : ended ≡ status_of said
+
+-- of a right answer only a front was printed
+pub record BreaksOff (words : List (List ℕ)) (files : Files) (faults : List ℕ → ℕ) (before now : Option (List ℕ)) : Type 0 where
+  pub said : Answer
+  pub right : IsRight words files faults said
+  pub front : PutsFront before now (answer_text said)
+
+-- how a run ends: for want of memory with nothing printed, in a fault of writing with a front of a
+-- right answer printed, and else with a right answer
+abbrev pub Ends : List (List ℕ) → Files → (List ℕ → ℕ) → Option (List ℕ) → Option (List ℕ) → Status → Type 0
+Ends words files faults before now status.Memory = now ≡ before
+Ends words files faults before now status.WriteFault = BreaksOff words files faults before now
+Ends words files faults before now ended = Says words files faults before now ended

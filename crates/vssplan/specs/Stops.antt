@@ -1,0 +1,39 @@
+-- Right reasons for which a task ends before its end.
+use Rattle.std.specs.Prelude.{◌≡◌, ℕ, List}
+use Rattle.vss_io.specs.Faults.{Rose}
+use Rattle.vssplan.specs.Words.{FileNames}
+use Rattle.vssplan.specs.Inputs.{name_of}
+use Rattle.vssplan.specs.Run.{Files, IsTooLong, IsRightFor, IsLawfulReport, IsUnlawfulReport}
+use Rattle.vssplan.specs.declared.answer.Input.{Input}
+use Rattle.vssplan.specs.declared.answer.Input.TheVariants.{Report}
+use Rattle.vssplan.specs.declared.answer.Refusal.TheVariants.{NotYet, FileTooLong}
+use Rattle.vssplan.specs.declared.answer.Answer.{Answer as Said}
+use Rattle.vssplan.specs.declared.answer.Answer.TheVariants.{Usage, ReadFault, Refused, Lawful, Breach}
+use Rattle.vssplan.specs.declared.stop.Stop.{Stop}
+use Rattle.vssplan.specs.declared.stop.Stop.TheVariants.{Answer, Memory}
+use Rattle.cell_net.specs.declared.labels.Labels.{Labels}
+use Rattle.cell_net.specs.declared.parts.InstanceParts.{InstanceParts}
+
+-- the answer that ends the task is right; want of memory may come at any time
+abbrev pub IsRightStop : Files → (List ℕ → ℕ) → FileNames → Stop → Type 0
+IsRightStop files faults names (Answer said) = IsRightFor files faults names said
+IsRightStop files faults names Memory = Unit {0}
+
+-- the file was not read: its count of faults rose, or it is too long
+abbrev pub IsUnread : Files → (List ℕ → ℕ) → FileNames → Input → Stop → Type 0
+IsUnread files faults names input (Answer (ReadFault file)) = (file ≡ input) × Rose (files.faults (name_of names input)) (faults (name_of names input))
+IsUnread files faults names input (Answer (Refused file FileTooLong)) = (file ≡ input) × IsTooLong files names input
+IsUnread files faults names input Memory = Unit {0}
+IsUnread files faults names input stop = ⊥
+
+-- what is said of the bytes of a report for a scene
+abbrev pub IsJudged : InstanceParts → Labels → List ℕ → Said → Type 0
+IsJudged parts labels report (Lawful borders) = IsLawfulReport parts labels report borders
+IsJudged parts labels report (Breach breach named) = (named ≡ labels) × IsUnlawfulReport parts labels report breach
+IsJudged parts labels report said = ⊥
+
+-- the report is refused, or there was not enough memory
+abbrev pub IsReportRefused : Stop → Type 0
+IsReportRefused (Answer (Refused Report NotYet)) = Unit {0}
+IsReportRefused Memory = Unit {0}
+IsReportRefused stop = ⊥

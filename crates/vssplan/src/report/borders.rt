@@ -1,0 +1,102 @@
+ghost use Rattle.std.specs.Prelude.{◌≡◌, ◌<◌, ◌≤◌, ◌++◌, ◌↔◌, ◌∷◌, [], All, length, IfOk, IfSome, IsTrue};
+ghost use Rattle.std.specs.List.{AllAdjacentBelow, flat_map};
+ghost use Rattle.vssplan.specs.Lines.{line};
+ghost use Rattle.vssplan.specs.PlaceNames.{name_text, IsShortName, IsPlaceOf, IsFound};
+ghost use Rattle.vssplan.specs.Report.{HasPlaceName, border_text};
+
+use super::cursor::Cursor;
+use super::unread::Unread;
+use crate::names::name_of_track;
+use cell_net::{CandidateId, Labels, PlaceLabel};
+use std::alloc::Global;
+
+/// The name of a place as it stands in a report.
+#[derive(Drop)]
+enum PlaceName<'a> {
+    Cut { track: &'a [u8], at_m: u32 },
+    Joint { name: &'a [u8] },
+}
+
+impl<'a> PlaceName<'a> {
+    /// Reads the name and the end of its line.
+    fn take(cursor: &mut Cursor<'a>) -> Result<PlaceName<'a>, Unread>
+        ensures read { IfOk result (λ name. cursor.old ≡ line (name_text name) ++ cursor.new) }
+        ensures short { IfOk result IsShortName }
+    {
+        if cursor.take(b"joint ").is_some() {
+            let name = cursor.until(b'\n')?;
+            return Ok(PlaceName::Joint { name });
+        }
+        cursor.expect(b"cut ")?;
+        let track = cursor.until(b' ')?;
+        let at_m = cursor.number()?;
+        cursor.expect(b"\n")?;
+        Ok(PlaceName::Cut { track, at_m })
+    }
+
+    /// Whether this is the place's name.
+    fn names(&self, labels: &Labels, place: &PlaceLabel) -> bool
+        ensures { IsTrue result ↔ IsPlaceOf labels.now self.now place.now }
+    {
+        match (self, place) {
+            (
+                PlaceName::Cut { track, at_m },
+                PlaceLabel::Cut {
+                    track: number,
+                    at_m: metres,
+                },
+            ) => { *metres == u64::from(*at_m) && name_of_track(labels, *number) == *track }
+            (PlaceName::Joint { name }, PlaceLabel::Joint { name: joint }) => joint.as_bytes()
+                == *name,
+            _ => false,
+        }
+    }
+
+    /// The place of this name among those from `from` on. Linear in the places up to it.
+    fn find(&self, labels: &Labels, from: usize) -> Option<usize>
+        ensures { IfSome result (IsFound labels.now from self.now) }
+    {
+        let places = labels.places.as_slice();
+        for place in from..places.len() {
+            if self.names(labels, &places[place]) {
+                return Some(place);
+            }
+        }
+        None
+    }
+}
+
+/// Reads the line of a border, and finds its place among those from `from` on.
+fn take_border<'a>(labels: &Labels, from: usize, cursor: &mut Cursor<'a>) -> Result<usize, Unread>
+    ensures read { IfOk result (λ place. cursor.old ≡ border_text labels.now (record { 0 = place }) ++ cursor.new) }
+    ensures named { IfOk result (λ place. HasPlaceName labels.now (record { 0 = place })) }
+    ensures ahead { IfOk result (λ place. from ≤ place) }
+    ensures within { IfOk result (λ place. place < length labels.now.places) }
+{
+    cursor.expect(b"border ")?;
+    let name = PlaceName::take(cursor)?;
+    name.find(labels, from).ok_or(Unread::NotDesign)
+}
+
+/// Reads so many borders, which have to rise. Linear in the text and the places.
+pub fn take_borders<'a>(
+    alloc: Global,
+    labels: &Labels,
+    count: u32,
+    cursor: &mut Cursor<'a>,
+) -> Result<Vec<CandidateId>, Unread>
+    ensures read { IfOk result (λ borders. cursor.old ≡ flat_map (border_text labels.now) borders.items ++ cursor.new) }
+    ensures all { IfOk result (λ borders. length borders.items ≡ count) }
+    ensures rising { IfOk result (λ borders. AllAdjacentBelow (λ b c. b.0 < c.0) borders.items (length borders.items)) }
+    ensures named { IfOk result (λ borders. All (HasPlaceName labels.now) borders.items) }
+{
+    let mut borders = Vec::new(alloc);
+    let mut from = 0;
+    for _ in 0..count {
+        let place = take_border(labels, from, cursor)?;
+        let number = u32::try_from(place).ok().ok_or(Unread::NotDesign)?;
+        borders.push(CandidateId(number))?;
+        from = place + 1;
+    }
+    Ok(borders)
+}

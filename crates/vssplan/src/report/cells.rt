@@ -1,0 +1,72 @@
+ghost use Rattle.std.specs.Prelude.{◌≡◌, ◌++◌, ℕ, IfSome, IfOk};
+ghost use Rattle.vssplan.specs.PrintedNames.{track_name, cell_name};
+ghost use Rattle.vssplan.specs.Report.{HasCellName, IsCellNamed, cell_text, sign};
+
+use super::cursor::Cursor;
+use super::unread::Unread;
+use crate::names::name_of_track;
+use cell_net::{CellId, DirCell, End, Labels};
+use indexmap::IndexMap;
+use std::alloc::Global;
+
+/// The cells of a scene, to be found by their names: of each track the place of its first cell.
+#[derive(Drop)]
+pub struct Cells<'a> {
+    pub labels: &'a Labels,
+    pub first_cells: IndexMap<&'a [u8], usize>,
+}
+
+impl<'a> Cells<'a> {
+    /// Linear in the cells.
+    pub fn new(alloc: Global, labels: &'a Labels) -> Result<Cells<'a>, Unread>
+        ensures { IfOk result (λ cells. cells.labels.now ≡ labels.now) }
+    {
+        let mut first_cells = IndexMap::new(alloc);
+        for (place, label) in labels.cells.as_slice().iter().enumerate() {
+            if label.index == 0
+                && let Some(track) = labels.tracks.get(label.track as usize)
+            {
+                first_cells.insert(track.as_bytes(), place)?;
+            }
+        }
+        Ok(Cells {
+            labels,
+            first_cells,
+        })
+    }
+
+    /// The cell of that number on the track of that name.
+    fn find(&self, track: &[u8], index: u32) -> Option<CellId>
+        ensures { IfSome result (λ cell. IsCellNamed self.now.labels.now cell track.now index) }
+    {
+        let place = self.first_cells.get(track)?.checked_add(index as usize)?;
+        let label = self.labels.cells.get(place)?;
+        if label.index != index || name_of_track(self.labels, label.track) != track {
+            return None;
+        }
+        Some(CellId(u32::try_from(place).ok()?))
+    }
+
+    /// Reads a directed cell, as `t1:0+`.
+    pub fn take(&self, cursor: &mut Cursor) -> Result<DirCell, Unread>
+        ensures read { IfOk result (λ d. cursor.old ≡ cell_text self.now.labels.now d ++ cursor.new) }
+        ensures named { IfOk result (HasCellName self.now.labels.now) }
+    {
+        let track = cursor.until(b':')?;
+        let index = cursor.number()?;
+        let cell = self.find(track, index).ok_or(Unread::NotDesign)?;
+        let end = take_end(cursor)?;
+        Ok(DirCell { cell, end })
+    }
+}
+
+/// Reads the end that a train in a cell heads to.
+fn take_end(cursor: &mut Cursor) -> Result<End, Unread>
+    ensures { IfOk result (λ end. cursor.old ≡ sign end ++ cursor.new) }
+{
+    if cursor.take(b"+").is_some() {
+        return Ok(End::High);
+    }
+    cursor.expect(b"-")?;
+    Ok(End::Low)
+}

@@ -1,0 +1,130 @@
+ghost use Rattle.std.specs.Prelude.{◌≡◌, ◌≤◌, ◌↔◌, IfOk, IfErr, List, ℕ, length, map, string_bytes};
+ghost use Rattle.vss_io.specs.Faults.{Rose};
+ghost use Rattle.vssplan.specs.FileNames.{names_in};
+ghost use Rattle.vssplan.specs.Run.{shown, Keeps, IsRead, HasNetwork, HasScene, IsRight, IsRightFor, Ends};
+ghost use Rattle.vssplan.specs.Inputs.{limit as most};
+ghost use Rattle.vssplan.specs.Stops.{IsRightStop, IsUnread, IsJudged, IsReportRefused};
+
+use crate::answer::{Answer, Input, Refusal};
+use crate::documents::{LineNetwork, line_network, scene_of};
+use crate::report::{Unread, read_design};
+use crate::status::Status;
+use crate::stop::Stop;
+use crate::words::{FileNames, files_of};
+use cell_net::{Layout, Scene};
+use plan_checker::{Verdict, judge};
+use std::alloc::{AllocError, Global};
+use vss_io::{Shelf, ShelfFault, Sink};
+
+/// Runs the task that the words ask for, with files from the shelf, and writes what it has to say.
+/// Everything is computed before the first byte is written, and printing takes no memory.
+pub fn run<H: Shelf, K: Sink>(alloc: Global, words: &[String], shelf: &mut H, out: &mut K) -> Status
+    ensures ends { Ends (map string_bytes words.now) (shown (H.tells shelf.old) (H.file shelf.old) (H.faults shelf.old))
+        (H.faults shelf.new) (K.written out.old) (K.written out.new) result }
+    ensures write_fault { result ≡ Status.WriteFault → Rose (K.faults out.old) (K.faults out.new) }
+{
+    let Ok(answer) = answer(alloc, words, shelf) else {
+        return Status::Memory;
+    };
+    match answer.print(out) {
+        Ok(()) => answer.status(),
+        Err(_) => Status::WriteFault,
+    }
+}
+
+/// What there is to say to the words.
+fn answer<H: Shelf>(alloc: Global, words: &[String], shelf: &mut H) -> Result<Answer, AllocError>
+    ensures { IfOk result (IsRight (map string_bytes words.now)
+        (shown (H.tells shelf.old) (H.file shelf.old) (H.faults shelf.old)) (H.faults shelf.new)) }
+{
+    let Some(names) = files_of(words) else {
+        return Ok(Answer::Usage);
+    };
+    match judged(alloc, &names, shelf) {
+        Ok(answer) => Ok(answer),
+        Err(Stop::Answer(answer)) => Ok(answer),
+        Err(Stop::Memory) => Err(AllocError),
+    }
+}
+
+/// Reads the three files and judges the plan of the report.
+fn judged<H: Shelf>(alloc: Global, names: &FileNames, shelf: &mut H) -> Result<Answer, Stop>
+    ensures answer { IfOk result (IsRightFor (shown (H.tells shelf.old) (H.file shelf.old) (H.faults shelf.old)) (H.faults shelf.new) (names_in names.now)) }
+    ensures stop { IfErr result (IsRightStop (shown (H.tells shelf.old) (H.file shelf.old) (H.faults shelf.old)) (H.faults shelf.new) (names_in names.now)) }
+{
+    let scene = read_scene(alloc, names, shelf)?;
+    match read_input(shelf, names, Input::Report) {
+        Ok(report) => judge_report(alloc, scene, report.as_slice()),
+        Err(stop) => Err(stop),
+    }
+}
+
+/// Judges the plan of a report for the scene.
+fn judge_report(alloc: Global, scene: Scene, report: &[u8]) -> Result<Answer, Stop>
+    requires { length report.now ≤ most Input.Report }
+    ensures answer { IfOk result (IsJudged scene.inst scene.labels report.now) }
+    ensures stop { IfErr result IsReportRefused }
+{
+    let refused = Stop::Answer(Answer::Refused(Input::Report, Refusal::NotYet));
+    let Scene { inst, labels } = scene;
+    let (borders, plan) = match read_design(alloc, &labels, report) {
+        Ok(design) => design,
+        Err(Unread::NotDesign) => return Err(refused),
+        Err(Unread::Memory) => return Err(Stop::Memory),
+    };
+    let count = borders.len() as u32;
+    let Ok(layout) = Layout::new(&inst, borders) else {
+        return Err(refused);
+    };
+    match judge(alloc, &inst, &layout, &plan)? {
+        Verdict::Lawful => Ok(Answer::Lawful { borders: count }),
+        Verdict::Breach(breach) => Ok(Answer::Breach { breach, labels }),
+    }
+}
+
+/// Reads the two documents.
+fn read_scene<H: Shelf>(alloc: Global, names: &FileNames, shelf: &mut H) -> Result<Scene, Stop>
+    ensures kept { Keeps (shown (H.tells shelf.old) (H.file shelf.old) (H.faults shelf.old)) (shown (H.tells shelf.new) (H.file shelf.new) (H.faults shelf.new)) }
+    ensures scene { IfOk result (λ scene. HasScene (shown (H.tells shelf.old) (H.file shelf.old) (H.faults shelf.old)) (names_in names.now) scene.inst scene.labels) }
+    ensures stop { IfErr result (IsRightStop (shown (H.tells shelf.old) (H.file shelf.old) (H.faults shelf.old)) (H.faults shelf.new) (names_in names.now)) }
+{
+    let network = read_network(alloc, names, shelf)?;
+    let bytes = read_input(shelf, names, Input::Timetable)?;
+    match scene_of(alloc, network, bytes.as_slice()) {
+        Ok(Some(scene)) => Ok(scene),
+        Ok(None) => Err(Stop::Answer(Answer::Refused(Input::Timetable, Refusal::NotYet))),
+        Err(_) => Err(Stop::Memory),
+    }
+}
+
+/// Reads the network's document.
+fn read_network<H: Shelf>(
+    alloc: Global,
+    names: &FileNames,
+    shelf: &mut H,
+) -> Result<LineNetwork, Stop>
+    ensures kept { Keeps (shown (H.tells shelf.old) (H.file shelf.old) (H.faults shelf.old)) (shown (H.tells shelf.new) (H.file shelf.new) (H.faults shelf.new)) }
+    ensures network { IfOk result (HasNetwork (shown (H.tells shelf.old) (H.file shelf.old) (H.faults shelf.old)) (names_in names.now)) }
+    ensures stop { IfErr result (IsRightStop (shown (H.tells shelf.old) (H.file shelf.old) (H.faults shelf.old)) (H.faults shelf.new) (names_in names.now)) }
+{
+    let bytes = read_input(shelf, names, Input::Network)?;
+    match line_network(alloc, bytes.as_slice()) {
+        Ok(Some(network)) => Ok(network),
+        Ok(None) => Err(Stop::Answer(Answer::Refused(Input::Network, Refusal::NotYet))),
+        Err(_) => Err(Stop::Memory),
+    }
+}
+
+/// Reads one of the files, whole.
+fn read_input<H: Shelf>(shelf: &mut H, names: &FileNames, input: Input) -> Result<Vec<u8>, Stop>
+    ensures kept { Keeps (shown (H.tells shelf.old) (H.file shelf.old) (H.faults shelf.old)) (shown (H.tells shelf.new) (H.file shelf.new) (H.faults shelf.new)) }
+    ensures read { IfOk result (λ bytes. IsRead (shown (H.tells shelf.old) (H.file shelf.old) (H.faults shelf.old)) (names_in names.now) input bytes.items) }
+    ensures unread { IfErr result (IsUnread (shown (H.tells shelf.old) (H.file shelf.old) (H.faults shelf.old)) (H.faults shelf.new) (names_in names.now) input) }
+{
+    match shelf.read_file(names.of(input), input.limit()) {
+        Ok(bytes) => Ok(bytes),
+        Err(ShelfFault::Failed) => Err(Stop::Answer(Answer::ReadFault(input))),
+        Err(ShelfFault::TooLong) => Err(Stop::Answer(Answer::Refused(input, Refusal::FileTooLong))),
+        Err(ShelfFault::Memory) => Err(Stop::Memory),
+    }
+}

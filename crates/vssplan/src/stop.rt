@@ -1,0 +1,22 @@
+ghost use Rattle.std.specs.Prelude.{◌≡◌};
+ghost use Rattle.vssplan.specs.declared.stop.Stop.TheVariants.{Memory};
+
+use crate::answer::Answer;
+use std::alloc::AllocError;
+
+/// Why a task ends before its end.
+#[derive(Debug, Drop)]
+pub enum Stop {
+    /// There is an answer already.
+    Answer(Answer),
+    /// There was not enough memory.
+    Memory,
+}
+
+impl From<AllocError> for Stop {
+    ghost from_gives = { λ _ e. e ≡ Memory };
+
+    fn from(_fault: AllocError) -> Stop {
+        Stop::Memory
+    }
+}
