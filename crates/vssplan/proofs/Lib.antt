@@ -1,5 +1,6 @@
 pub mod Design
 pub mod FourItems
+pub mod LabelLemmas
 pub mod MemberLemmas
 pub mod NameLemmas
 pub mod NetworkLemmas

@@ -2,7 +2,7 @@ ghost use Rattle.std.specs.Prelude.{◌≡◌, ◌⊎◌, ◌<◌, ◌^◌, ℕ,
 ghost use Rattle.cell_net.specs.Labelled.{AreLabelsOf};
 ghost use Rattle.cell_net.specs.Refusals.{IsRefusal};
 ghost use Rattle.vssplan.specs.Grid.{IsGrid, IsCoarse};
-ghost use Rattle.vssplan.specs.Network.{IsLineNetwork};
+ghost use Rattle.vssplan.specs.Network.{IsLineNetwork, IsOfDocument};
 ghost use Rattle.vssplan.specs.Timetable.{IsLineTimetable};
 ghost use Rattle.vssplan.specs.Scene.{IsScene, IsTimetableScene, parts_of, labels_of};
 
@@ -56,6 +56,7 @@ pub fn scene_of(
     network: LineNetwork,
     bytes: &[u8],
 ) -> Result<Option<Scene>, BuildRefusal>
+    requires { IsOfDocument network }
     ensures scene { IfOk result (λ found. (network_bytes : List ℕ) → IsLineNetwork network_bytes network
         → MatchOption found ((p : InstanceParts) (l : Labels) → ¬ IsScene network_bytes bytes.now p l)
         (λ s. IsScene network_bytes bytes.now s.inst s.labels)) }

@@ -24,3 +24,8 @@ returns-in-Ok-None-clause-stop g c =
       is_read = IsRead-earlier _ _ _ _ _ c.in_ok-network.ensures.kept c.in_ok-bytes.ensures.read;
       is_none = none;
     }
+
+pub scene_of-requires : goal.scene_of-requires
+scene_of-requires g c =
+    let found = c.in_ok-network.ensures.network in
+    record { bytes = found.bytes; is_network = found.is_network }

@@ -31,7 +31,7 @@ build-requires-clause-trains c =
 pub invariant_of-result : goal.invariant_of-result
 invariant_of-result c =
     let is_scene = rw c.in-Ok-Some.field-0-is at c.in-Ok-Some.ensures in
-    let fits : AreLabelsOf c.in-Ok-Some.both.0 c.in-Ok-Some.both.1 = labelled _ _ _ _ is_scene in
+    let fits : AreLabelsOf c.in-Ok-Some.both.0 c.in-Ok-Some.both.1 = labelled _ _ _ _ c.requires is_scene in
     record { labelled = rw c.in-Ok.ensures.parts fits }
 
 pub returns-in-Ok-None-clause-scene : goal.returns-in-Ok-None-clause-scene
