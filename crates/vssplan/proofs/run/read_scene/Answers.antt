@@ -4,7 +4,7 @@ use Rattle.vssplan.proofs.run.read_scene.Goals as goal
 pub returns-in-Ok-Some-clause-scene : goal.returns-in-Ok-Some-clause-scene
 returns-in-Ok-Some-clause-scene g c =
     let found = c.in_ok-network.ensures.network in
-    let scene = rw (c.in-Ok-Some.field-0-is, c.as_slice.ensures.value) at (c.in-Ok-Some.ensures.scene found.bytes found.is_network) in
+    let scene = rw (c.in-Ok-Some.field-0-is, c.as_slice.ensures.value) at (c.in-Ok-Some.ensures found.bytes found.is_network) in
     record {
       network = found.bytes;
       timetable = c.in_ok-bytes.bytes.items;
@@ -16,7 +16,7 @@ returns-in-Ok-Some-clause-scene g c =
 pub returns-in-Ok-None-clause-stop : goal.returns-in-Ok-None-clause-stop
 returns-in-Ok-None-clause-stop g c =
     let found = c.in_ok-network.ensures.network in
-    let none = rw (c.in-Ok-None.field-0-is, c.as_slice.ensures.value) at (c.in-Ok-None.ensures.scene found.bytes found.is_network) in
+    let none = rw (c.in-Ok-None.field-0-is, c.as_slice.ensures.value) at (c.in-Ok-None.ensures found.bytes found.is_network) in
     record {
       network = c.in_ok-network.network;
       has_network = found;
