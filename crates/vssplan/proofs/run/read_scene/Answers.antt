@@ -1,3 +1,4 @@
+use Rattle.vssplan.proofs.OneScene.{one_scene}
 use Rattle.vssplan.proofs.Readings.{IsRead-earlier}
 use Rattle.vssplan.proofs.run.read_scene.Goals as goal
 
@@ -11,6 +12,7 @@ returns-in-Ok-Some-clause-scene g c =
       network_read = found.is_read;
       timetable_read = IsRead-earlier _ _ _ _ _ c.in_ok-network.ensures.kept c.in_ok-bytes.ensures.read;
       is_scene = scene;
+      only = λ others named is_other. one_scene found.bytes c.in_ok-bytes.bytes.items _ others _ named scene is_other;
     }
 
 pub returns-in-Ok-None-clause-stop : goal.returns-in-Ok-None-clause-stop
