@@ -1,6 +1,6 @@
 -- The labels of a line are those of its instance: names, none of which is another's.
 use Rattle.std.proofs.Common.{◌≡◌, ◌≢◌, ℕ, ◌+◌, ◌-◌, ◌*◌, ◌<◌, ◌≤◌, List, [], ◌∷◌, length, map, All, sym, subst, ap, ◌∙◌, arith}
-use Rattle.std.specs.List.{AllZip, range_with_len}
+use Rattle.std.specs.List.{range_with_len}
 use Rattle.std.proofs.lemmas.List.FromFn.{length-map-range_with_len}
 use Rattle.std.proofs.lemmas.List.Elements.{All-nil, All-cons}
 use Rattle.cell_net.specs.Names.{IsName}
@@ -13,20 +13,12 @@ use Rattle.vssplan.specs.declared.documents.network.LineNetwork.{LineNetwork}
 use Rattle.vssplan.specs.declared.documents.grid.Grid.{Grid}
 use Rattle.vssplan.proofs.RowLemmas.{row_all, row_each, row_has, row_pairs}
 
--- what a pairing says of its second item holds of each item of the second list
-pub zip_second : {X Y : Type 0} (R : X → Y → Type 0) (P : Y → Type 0) → ((x : X) (y : Y) → R x y → P y)
-    → (xs : List X) (ys : List Y) → AllZip R xs ys → All P ys
-zip_second R P says [] [] all = All-nil P
-zip_second R P says [] (y ∷ ys) all = absurd all
-zip_second R P says (x ∷ xs) [] all = absurd all
-zip_second R P says (x ∷ xs) (y ∷ ys) all = All-cons P y ys (says x y all.0) (zip_second R P says xs ys all.1)
-
 -- no two items of a list of one are the same
 one_differs : {X : Type 0} (x : X) → AllDiffer (x ∷ [])
 one_differs x i j d low within = absurd (omega arith)
 
-label_at : (k : ℕ) → k < k + 1 → (cell_label k).track < 1
-label_at k low = omega arith
+label_at : (k : ℕ) → (cell_label k).track < 1
+label_at k = omega arith
 
 -- each cell but the first stands behind the one before it
 in_turn : (count k : ℕ) → k < count → IsInTurn (map cell_label (range_with_len 0 count)) k (cell_label k)
@@ -59,7 +51,7 @@ are_labels : (n : LineNetwork) (g : Grid) (names : List (List ℕ)) → IsName n
 are_labels n g names track some named different = record {
   tracks_named = All-cons IsName n.track [] track (All-nil IsName);
   trains_named = named;
-  cell_tracks = row_all (λ (c : CellLabel). c.track < 1) cell_label (cell_count n g) (λ k below. label_at k (omega arith));
+  cell_tracks = row_all (λ (c : CellLabel). c.track < 1) cell_label (cell_count n g) (λ k below. label_at k);
   places = row_all (IsGoodPlace 1) (cut_label g) (cut_count n g) (λ k below. good_place g k);
   in_turn = row_each (IsInTurn (map cell_label (range_with_len 0 (cell_count n g)))) cell_label (cell_count n g) (in_turn (cell_count n g));
   tracks_differ = one_differs n.track;

@@ -15,7 +15,8 @@ use Rattle.vssplan.specs.declared.documents.network.LineNetwork.{LineNetwork}
 use Rattle.vssplan.proofs.LineCells.{good_candidates, good_cells, good_joins, line}
 use Rattle.vssplan.proofs.LineSection.{good_sections}
 use Rattle.vssplan.proofs.LineTrains.{good_trains, some_steps}
-use Rattle.vssplan.proofs.SceneLemmas.{few_stops, zip_length}
+use Rattle.vssplan.proofs.SceneLemmas.{few_stops}
+use Rattle.vssplan.proofs.ZipLemmas.{zip_length}
 
 -- no item of an empty list breaks a rule
 none_breaks : {X : Type 0} (P : ℕ → X → Type 0) → HoldsOfEach P []

@@ -1,5 +1,5 @@
 -- The trains of a timetable keep the rules of an instance of a line.
-use Rattle.std.proofs.Common.{◌≡◌, ℕ, zero, suc, ◌*◌, ◌<◌, ◌≤◌, List, [], ◌∷◌, length, Option, Some, None, slice_get, sym, subst, arith}
+use Rattle.std.proofs.Common.{◌≡◌, ℕ, zero, suc, ◌*◌, ◌<◌, ◌≤◌, List, length, Option, Some, None, sym, subst, arith}
 use Rattle.std.specs.Int.{div_ceil}
 use Rattle.std.specs.List.{AllZip}
 use Rattle.std.proofs.lemmas.Grind.{div_ceil_times}
@@ -19,6 +19,7 @@ use Rattle.vssplan.specs.declared.documents.network.LineNetwork.{LineNetwork}
 use Rattle.vssplan.specs.declared.documents.grid.Grid.{Grid}
 use Rattle.vssplan.specs.declared.documents.trains.LineTrain.{LineTrain}
 use Rattle.vssplan.proofs.LineCells.{line}
+use Rattle.vssplan.proofs.ZipLemmas.{zip_item}
 
 -- some metres are at least one step of space, rounded up
 pub some_steps : (metres step : ℕ) → 1 ≤ metres → 1 ≤ step → 0 < div_ceil metres step
@@ -27,14 +28,6 @@ some_steps metres step some positive = go (div_ceil metres step) (div_ceil_times
     go : (q : ℕ) → metres ≤ q * step → 0 < q
     go zero most = absurd (omega arith)
     go (suc q) most = omega arith
-
--- what pairs with an item of the first list is each item of the second
-pub zip_item : {X Y : Type 0} (R : X → Y → Type 0) (xs : List X) (ys : List Y) (k : ℕ) (y : Y) → AllZip R xs ys → slice_get ys k ≡ Some y → (x : X) × R x y
-zip_item R [] [] k y all is = absurd (omega (arith, slice_get_within [] k y is))
-zip_item R [] (z ∷ zs) k y all is = absurd all
-zip_item R (x ∷ xs) [] k y all is = absurd all
-zip_item R (x ∷ xs) (z ∷ zs) zero y all is = let same : z ≡ y = cc in (x, subst (R x) same all.0)
-zip_item R (x ∷ xs) (z ∷ zs) (suc k) y all is = zip_item R xs zs k y all.1 is
 
 entry_within : (count : ℕ) (e : End) → 0 < count → (entry_at count e).cell.0 < count
 entry_within count Low some = some

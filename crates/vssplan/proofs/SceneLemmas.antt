@@ -1,5 +1,5 @@
 -- The parts and the labels of a scene fit each other, and are few.
-use Rattle.std.proofs.Common.{◌≡◌, ℕ, zero, suc, ◌^◌, ◌<◌, ◌≤◌, List, [], ◌∷◌, length, slice_index_or, refl, sym, ◌∙◌, arith, subst}
+use Rattle.std.proofs.Common.{◌≡◌, ℕ, zero, suc, ◌^◌, ◌<◌, ◌≤◌, List, [], ◌∷◌, length, slice_index_or, sym, ◌∙◌, arith, subst}
 use Rattle.std.specs.List.{AllZip}
 use Rattle.std.proofs.lemmas.List.FromFn.{length-map-range_with_len}
 use Rattle.cell_net.specs.Labelled.{AreLabelsOf}
@@ -8,8 +8,9 @@ use Rattle.cell_net.specs.declared.trains.TrainSpec.{TrainSpec}
 use Rattle.cell_net.specs.declared.labels.Labels.{Labels}
 use Rattle.cell_net.specs.declared.parts.InstanceParts.{InstanceParts}
 use Rattle.serde_json.specs.Data.{Data}
-use Rattle.vssplan.proofs.LabelLemmas.{labelled_line, zip_second}
+use Rattle.vssplan.proofs.LabelLemmas.{labelled_line}
 use Rattle.vssplan.proofs.NetworkLemmas.{same_network}
+use Rattle.vssplan.proofs.ZipLemmas.{zip_length, zip_second}
 use Rattle.cell_net.specs.Rules.{HasFewStops}
 use Rattle.vssplan.specs.Members.{IsNamed}
 use Rattle.vssplan.specs.Network.{IsLineNetwork, IsOfDocument}
@@ -18,12 +19,6 @@ use Rattle.vssplan.specs.Grid.{cell_count, cut_count}
 use Rattle.vssplan.specs.Scene.{IsScene, IsTimetableScene, parts_of}
 use Rattle.vssplan.specs.declared.documents.network.LineNetwork.{LineNetwork}
 use Rattle.vssplan.specs.declared.documents.grid.Grid.{Grid}
-
-pub zip_length : {X Y : Type 0} (R : X → Y → Type 0) (xs : List X) (ys : List Y) → AllZip R xs ys → length ys ≡ length xs
-zip_length R [] [] all = refl
-zip_length R [] (y ∷ ys) all = absurd all
-zip_length R (x ∷ xs) [] all = absurd all
-zip_length R (x ∷ xs) (y ∷ ys) all = let more : length ys ≡ length xs = zip_length R xs ys all.1 in omega arith
 
 as_many : (n : LineNetwork) (bytes : List ℕ) (p : InstanceParts) (l : Labels) (h : IsTimetableScene n bytes p l) → length h.timetable.names ≡ length h.timetable.trains
 as_many n bytes p l h =
