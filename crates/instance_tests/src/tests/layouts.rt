@@ -1,0 +1,126 @@
+//! Which borders are refused.
+
+ghost use Rattle.std.specs.Prelude.{◌<◌, ◌^◌, length};
+
+use super::changes::Change::{Candidates, Cells, Kept};
+use super::changes::{NO_CELLS, build};
+use cell_net::LayoutRefusal::{NotRising, OutOfRange};
+use cell_net::{CandidateId, Instance, Layout, LayoutRefusal};
+use std::alloc::{AllocError, Global};
+use std::process::Abort;
+use std::test::Fail;
+
+/// Borders, and what is answered to them.
+type Row = (&'static [u32], Result<(), LayoutRefusal>);
+
+fn borders_of(alloc: Global, borders: &[u32]) -> Result<Vec<CandidateId>, AllocError> {
+    borders
+        .iter()
+        .map(|&border| CandidateId(border))
+        .collect(alloc)
+}
+
+/// What is answered to the borders.
+fn layout_of(
+    rt: &impl Abort,
+    alloc: Global,
+    inst: &Instance,
+    borders: &[u32],
+) -> Result<Result<Layout, LayoutRefusal>, AllocError> {
+    let borders = borders_of(alloc, borders)?;
+    assert!(rt; borders.len() < 100);
+    Ok(Layout::new(inst, borders))
+}
+
+/// Wants the answer of each row, and of a layout its borders.
+fn check_rows(rt: &impl Abort, alloc: Global, inst: &Instance, rows: &[Row]) -> Result<(), Fail> {
+    for place in 0..rows.len() {
+        let (borders, want) = rows[place];
+        let found = match layout_of(rt, alloc, inst, borders)? {
+            Ok(layout) => {
+                check_borders(rt, alloc, &layout, borders)?;
+                Ok(())
+            }
+            Err(refusal) => Err(refusal),
+        };
+        assert_eq!(rt; found, want, "row {place}");
+    }
+    Ok(())
+}
+
+fn check_borders(
+    rt: &impl Abort,
+    alloc: Global,
+    layout: &Layout,
+    borders: &[u32],
+) -> Result<(), AllocError> {
+    let borders = borders_of(alloc, borders)?;
+    assert_eq!(rt; layout.borders(), borders.as_slice());
+    Ok(())
+}
+
+static ROWS: [Row; 19] = [
+    (&[], Ok(())),
+    (&[0], Ok(())),
+    (&[1, 3], Ok(())),
+    (&[0, 1, 2, 3], Ok(())),
+    // the last candidate, and one past it
+    (&[3], Ok(())),
+    (&[4], Err(OutOfRange(0))),
+    (&[0, 3, 4], Err(OutOfRange(2))),
+    (&[u32::MAX], Err(OutOfRange(0))),
+    // two out of range
+    (&[2, 4, 5], Err(OutOfRange(1))),
+    // not rising, and the same once more
+    (&[1, 0], Err(NotRising(1))),
+    (&[2, 2], Err(NotRising(1))),
+    (&[0, 1, 1], Err(NotRising(2))),
+    (&[0, 2, 1, 3], Err(NotRising(2))),
+    // two that don't rise
+    (&[3, 2, 1], Err(NotRising(1))),
+    (&[0, 3, 3, 2], Err(NotRising(2))),
+    // not rising, and out of range before that, there and after that
+    (&[4, 0], Err(NotRising(1))),
+    (&[4, 4], Err(NotRising(1))),
+    (&[1, 0, 4], Err(NotRising(1))),
+    (&[4, 5, 6, 0], Err(NotRising(3))),
+];
+
+#[test]
+fn borders_rise_and_are_candidates(rt: HostRuntime) -> Result<(), Fail> {
+    let alloc = rt.alloc();
+    let inst = build(&rt, alloc, &[NO_CELLS], &[Cells(5), Candidates(4)])??;
+    check_rows(&rt, alloc, &inst, &ROWS)
+}
+
+static WITHOUT_CANDIDATES: [Row; 3] = [
+    (&[], Ok(())),
+    (&[0], Err(OutOfRange(0))),
+    (&[0, 0], Err(NotRising(1))),
+];
+
+#[test]
+fn without_candidates_the_empty_list_alone_is_taken(rt: HostRuntime) -> Result<(), Fail> {
+    let alloc = rt.alloc();
+    let inst = build(&rt, alloc, &[NO_CELLS], &[Cells(5)])??;
+    check_rows(&rt, alloc, &inst, &WITHOUT_CANDIDATES)
+}
+
+static WITHOUT_THE_KEPT: [Row; 2] = [(&[], Ok(())), (&[0], Ok(()))];
+
+#[test]
+fn borders_without_the_kept_one_are_taken(rt: HostRuntime) -> Result<(), Fail> {
+    let alloc = rt.alloc();
+    let inst = build(&rt, alloc, &[NO_CELLS], &[Cells(5), Candidates(4), Kept(1)])??;
+    check_rows(&rt, alloc, &inst, &WITHOUT_THE_KEPT)
+}
+
+#[test]
+fn a_layout_has_its_borders_alone(rt: HostRuntime) -> Result<(), Fail> {
+    let alloc = rt.alloc();
+    let inst = build(&rt, alloc, &[NO_CELLS], &[Cells(5), Candidates(4)])??;
+    let layout = layout_of(&rt, alloc, &inst, &[0, 3])??;
+    let has = [0, 1, 2, 3, 4].map(|border| layout.has(CandidateId(border)));
+    assert_eq!(rt; has, [true, false, false, true, false]);
+    Ok(())
+}

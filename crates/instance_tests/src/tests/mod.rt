@@ -1,0 +1,5 @@
+mod changes;
+mod layouts;
+mod limits;
+mod orders;
+mod parts;
