@@ -10,6 +10,10 @@ mod report;
 mod run;
 mod status;
 mod stop;
+#[cfg(test)]
+mod test_texts;
+#[cfg(test)]
+mod tests;
 mod words;
 
 use edge::{FileShelf, StdSink};

@@ -1,22 +1,9 @@
 use super::{line_network, scene_of};
+use crate::test_texts::{LINE, XY, changed};
 use cell_net::{CellId, DirCell, End, NodeId, PlaceLabel, Scene};
 use std::alloc::{AllocError, Global};
 use std::process::Abort;
 use std::test::Fail;
-
-const LINE: &str =
-    r#"{"nodes":[{"name":"A","kind":"end"},{"name":"B","kind":"end"}],"tracks":[{"name":"t1","from":"A","to":"B","length_m":2000}],"sections":[{"name":"s1","tracks":["t1"]}]}"#;
-
-const XY: &str =
-    r#"{"space_step_m":500,"time_step_s":60,"horizon_s":600,"trains":[{"name":"X","length_m":400,"speed_kmh":30,"from":"A","to":"B","entry_s":0,"arrive_s":180},{"name":"Y","length_m":400,"speed_kmh":30,"from":"A","to":"B","entry_s":120}]}"#;
-
-/// The text with the first place of `old` changed; the text itself without such a place.
-fn changed(alloc: Global, text: &str, old: &str, new: &str) -> Result<String, AllocError> {
-    match text.split_once(old) {
-        Some((before, after)) => format!(in alloc; "{before}{new}{after}"),
-        None => String::from_str(alloc, text),
-    }
-}
 
 fn scene(rt: &impl Abort, alloc: Global, network: &str, timetable: &str) -> Option<Scene> {
     match line_network(alloc, network.as_bytes()) {
