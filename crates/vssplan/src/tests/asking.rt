@@ -61,6 +61,24 @@ pub fn shelf_of(
     Ok(MemShelf::new(alloc, files, Vec::new(alloc)))
 }
 
+/// Runs on the words, and compares what is printed and the status; `row` tells which case it is.
+fn expect_ending(
+    rt: &impl Abort,
+    alloc: Global,
+    words: &str,
+    shelf: &mut impl Shelf,
+    (line, status): (&str, u8),
+    row: &str,
+) -> Result<(), Fail> {
+    let words = words_of(alloc, words)?;
+    let mut out = MemSink::new(alloc, 1000, Vec::new(alloc))?;
+    let found = run(alloc, words.as_slice(), shelf, &mut out);
+    let wanted = format!(in alloc; "{line}\n")?;
+    assert_eq!(rt; out.written(), wanted.as_bytes(), "wanted {line} for {row}");
+    assert_eq!(rt; found as u8, status, "{line} for {row}");
+    Ok(())
+}
+
 /// Runs on the words, and compares what is printed and the status.
 pub fn expect_run(
     rt: &impl Abort,
@@ -70,13 +88,7 @@ pub fn expect_run(
     line: &str,
     status: u8,
 ) -> Result<(), Fail> {
-    let words = words_of(alloc, words)?;
-    let mut out = MemSink::new(alloc, 1000, Vec::new(alloc))?;
-    let found = run(alloc, words.as_slice(), shelf, &mut out);
-    let wanted = format!(in alloc; "{line}\n")?;
-    assert_eq!(rt; out.written(), wanted.as_bytes(), "wanted {line}");
-    assert_eq!(rt; found as u8, status, "at {line}");
-    Ok(())
+    expect_ending(rt, alloc, words, shelf, (line, status), words)
 }
 
 /// Judges the report for the line and the timetable, and compares what is printed and the status.
@@ -89,5 +101,5 @@ pub fn expect_judged(
     status: u8,
 ) -> Result<(), Fail> {
     let mut shelf = shelf_of(alloc, LINE, timetable, report)?;
-    expect_run(rt, alloc, JUDGE, &mut shelf, line, status)
+    expect_ending(rt, alloc, JUDGE, &mut shelf, (line, status), report)
 }
