@@ -1,3 +1,4 @@
+pub mod Ends
 pub mod FileNames
 pub mod Grid
 pub mod Inputs
