@@ -1,6 +1,7 @@
 pub mod CellTexts
 pub mod Design
 pub mod EndedWords
+pub mod FirstCells
 pub mod FourItems
 pub mod ListItems
 pub mod MemberLemmas

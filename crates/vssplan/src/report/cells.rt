@@ -1,4 +1,8 @@
-ghost use Rattle.std.specs.Prelude.{◌≡◌, ◌++◌, ℕ, IfSome, IfOk};
+ghost use Rattle.std.specs.Prelude.{◌≡◌, ◌<◌, ◌^◌, ◌++◌, ℕ, Some, length, slice_get, IfSome, IfNone, IfOk};
+ghost use Rattle.cell_net.specs.Labelled.{AreLabels};
+ghost use Rattle.cell_net.specs.declared.ids.CellId.{CellId};
+ghost use Rattle.cell_net.specs.declared.labels.CellLabel.{CellLabel};
+ghost use Rattle.vssplan.specs.FirstCells.{HasFirstCells};
 ghost use Rattle.vssplan.specs.PrintedNames.{track_name, cell_name};
 ghost use Rattle.vssplan.specs.Report.{HasCellName, IsCellNamed, cell_text, sign};
 
@@ -14,19 +18,22 @@ use std::alloc::Global;
 pub struct Cells<'a> {
     pub labels: &'a Labels,
     pub first_cells: IndexMap<&'a [u8], usize>,
+    ghost good: { AreLabels labels.now },
+    ghost few: { length labels.now.cells < 2 ^ 32 },
+    ghost complete: { HasFirstCells labels.now first_cells },
 }
 
 impl<'a> Cells<'a> {
     /// Linear in the cells.
     pub fn new(alloc: Global, labels: &'a Labels) -> Result<Cells<'a>, Unread>
+        requires good { AreLabels labels.now }
+        requires few { length labels.now.cells < 2 ^ 32 }
         ensures { IfOk result (λ cells. cells.labels.now ≡ labels.now) }
     {
         let mut first_cells = IndexMap::new(alloc);
         for (place, label) in labels.cells.as_slice().iter().enumerate() {
-            if label.index == 0
-                && let Some(track) = labels.tracks.get(label.track as usize)
-            {
-                first_cells.insert(track.as_bytes(), place)?;
+            if label.index == 0 {
+                first_cells.insert(name_of_track(labels, label.track), place)?;
             }
         }
         Ok(Cells {
@@ -35,11 +42,20 @@ impl<'a> Cells<'a> {
         })
     }
 
+    /// The place of the cell of number 0 on the track of that name.
+    fn first(&self, track: &[u8]) -> Option<usize>
+        ensures { (place : ℕ) (label : CellLabel) → slice_get self.now.labels.now.cells place ≡ Some label → label.index ≡ 0
+            → track_name self.now.labels.now label.track ≡ track.now → result ≡ Some place }
+    {
+        self.first_cells.get(track).copied()
+    }
+
     /// The cell of that number on the track of that name.
     fn find(&self, track: &[u8], index: u32) -> Option<CellId>
-        ensures { IfSome result (λ cell. IsCellNamed self.now.labels.now cell track.now index) }
+        ensures found { IfSome result (λ cell. IsCellNamed self.now.labels.now cell track.now index) }
+        ensures none { IfNone result ((cell : CellId) → ¬ IsCellNamed self.now.labels.now cell track.now index) }
     {
-        let place = self.first_cells.get(track)?.checked_add(index as usize)?;
+        let place = self.first(track)?.checked_add(index as usize)?;
         let label = self.labels.cells.get(place)?;
         if label.index != index || name_of_track(self.labels, label.track) != track {
             return None;
