@@ -7,6 +7,9 @@ pub mod ListItems
 pub mod MemberLemmas
 pub mod NameLemmas
 pub mod NetworkLemmas
+pub mod NoCell
+pub mod NoRun
+pub mod NoSweep
 pub mod Numbers
 pub mod OneDesign
 pub mod Options

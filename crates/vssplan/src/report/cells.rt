@@ -1,5 +1,7 @@
-ghost use Rattle.std.specs.Prelude.{◌≡◌, ◌<◌, ◌^◌, ◌++◌, ℕ, Some, length, slice_get, IfSome, IfNone, IfOk};
+ghost use Rattle.std.specs.Prelude.{◌≡◌, ◌≢◌, ◌<◌, ◌^◌, ◌++◌, ℕ, List, Some, length, slice_get, IfSome, IfNone, IfOk, OnErr};
 ghost use Rattle.cell_net.specs.Labelled.{AreLabels};
+ghost use Rattle.cell_net.specs.declared.cells.DirCell.{DirCell};
+ghost use Rattle.cell_net.specs.declared.cells.End.{End};
 ghost use Rattle.cell_net.specs.declared.ids.CellId.{CellId};
 ghost use Rattle.cell_net.specs.declared.labels.CellLabel.{CellLabel};
 ghost use Rattle.vssplan.specs.FirstCells.{HasFirstCells};
@@ -67,10 +69,14 @@ impl<'a> Cells<'a> {
     pub fn take(&self, cursor: &mut Cursor) -> Result<DirCell, Unread>
         ensures read { IfOk result (λ d. cursor.old ≡ cell_text self.now.labels.now d ++ cursor.new) }
         ensures named { IfOk result (HasCellName self.now.labels.now) }
+        ensures none { OnErr result ((d : DirCell) (rest : List ℕ) → HasCellName self.now.labels.now d
+            → cursor.old ≢ cell_text self.now.labels.now d ++ rest) }
     {
         let track = cursor.until(b':')?;
         let index = cursor.number()?;
-        let cell = self.find(track, index).ok_or(Unread::NotDesign)?;
+        let Some(cell) = self.find(track, index) else {
+            return Err(Unread::NotDesign);
+        };
         let end = take_end(cursor)?;
         Ok(DirCell { cell, end })
     }
@@ -78,7 +84,8 @@ impl<'a> Cells<'a> {
 
 /// Reads the end that a train in a cell heads to.
 fn take_end(cursor: &mut Cursor) -> Result<End, Unread>
-    ensures { IfOk result (λ end. cursor.old ≡ sign end ++ cursor.new) }
+    ensures read { IfOk result (λ end. cursor.old ≡ sign end ++ cursor.new) }
+    ensures none { OnErr result ((end : End) (rest : List ℕ) → cursor.old ≢ sign end ++ rest) }
 {
     if cursor.take(b"+").is_some() {
         return Ok(End::High);

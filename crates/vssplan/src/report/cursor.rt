@@ -1,4 +1,4 @@
-ghost use Rattle.std.specs.Prelude.{◌≡◌, ◌≢◌, ◌<◌, ◌^◌, ◌++◌, ◌↔◌, List, ℕ, [], decimal, IfSome, IfNone, IfOk, OnOk, OnErr, IsTrue, ◌∷◌};
+ghost use Rattle.std.specs.Prelude.{◌≡◌, ◌≢◌, ◌<◌, ◌^◌, ◌++◌, ◌↔◌, List, ℕ, [], decimal, IfSome, IfNone, IfOk, OnOk, OnErr, IsTrue, Ok, ◌∷◌};
 ghost use Rattle.std.specs.Char.{is_ascii_digit};
 ghost use Rattle.std.specs.List.{take_while};
 ghost use Rattle.vssplan.specs.Ends.{Lacks, BeginsWithNoDigit};
@@ -82,7 +82,8 @@ impl<'a> Cursor<'a> {
     pub fn number(&mut self) -> Result<u32, Unread>
         ensures small { IfOk result (λ n. n < 10 ^ 9) }
         ensures read { IfOk result (λ n. self.old ≡ decimal n ++ self.new) }
-        ensures none { OnErr result ((n : ℕ) (rest : List ℕ) → n < 10 ^ 9 → BeginsWithNoDigit rest → self.old ≢ decimal n ++ rest) }
+        ensures only { (n : ℕ) (rest : List ℕ) → n < 10 ^ 9 → BeginsWithNoDigit rest → self.old ≡ decimal n ++ rest
+            → (result ≡ Ok n) × (self.new ≡ rest) }
     {
         match number_of(self.digits()) {
             Some(number) => Ok(number),
