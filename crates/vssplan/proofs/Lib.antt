@@ -7,7 +7,9 @@ pub mod ListItems
 pub mod MemberLemmas
 pub mod NameLemmas
 pub mod NetworkLemmas
+pub mod NoBorder
 pub mod NoCell
+pub mod NoDesign
 pub mod NoRun
 pub mod NoSweep
 pub mod Numbers

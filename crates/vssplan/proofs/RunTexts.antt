@@ -104,9 +104,9 @@ none_missing labels trains xs ys [] r s more rest count each =
 -- two readings of one run for each train are one
 pub runs_same : (labels : Labels) (trains : List (List ℕ)) (xs ys : List TrainRun) (r s : List ℕ) → AreLabels labels
     → length xs ≡ length trains → length ys ≡ length trains → All (IsReportRun labels) xs → All (IsReportRun labels) ys
-    → BeginsWithNoSweep r → BeginsWithNoSweep s → runs_text labels trains xs ++ r ≡ runs_text labels trains ys ++ s → (xs ≡ ys) × (r ≡ s)
+    → (0 < length xs → BeginsWithNoSweep r) → BeginsWithNoSweep s → runs_text labels trains xs ++ r ≡ runs_text labels trains ys ++ s → (xs ≡ ys) × (r ≡ s)
 runs_same labels trains xs ys r s good each also fit fitting ends ending e =
     let whole : take (length xs) trains ≡ trains = take_all (length xs) trains (omega arith) in
-    let more = runs_go_along labels trains xs ys r s good (omega arith) also fit fitting (λ _. ends) ending
+    let more = runs_go_along labels trains xs ys r s good (omega arith) also fit fitting ends ending
       (ap (λ (ts : List (List ℕ)). runs_text labels ts xs ++ r) whole ∙ e) in
     none_missing labels trains xs ys more.others r s more.is_more more.is_rest (omega arith) each

@@ -1,4 +1,4 @@
-ghost use Rattle.std.specs.Prelude.{◌≡◌, ◌≢◌, ◌<◌, ◌^◌, ◌++◌, ℕ, List, Some, length, slice_get, IfSome, IfNone, IfOk, OnErr};
+ghost use Rattle.std.specs.Prelude.{◌≡◌, ◌≢◌, ◌<◌, ◌^◌, ◌++◌, ℕ, List, Some, length, slice_get, IfSome, IfNone, IfOk, IfErr, OnErr};
 ghost use Rattle.cell_net.specs.Labelled.{AreLabels};
 ghost use Rattle.cell_net.specs.declared.cells.DirCell.{DirCell};
 ghost use Rattle.cell_net.specs.declared.cells.End.{End};
@@ -30,7 +30,8 @@ impl<'a> Cells<'a> {
     pub fn new(alloc: Global, labels: &'a Labels) -> Result<Cells<'a>, Unread>
         requires good { AreLabels labels.now }
         requires few { length labels.now.cells < 2 ^ 32 }
-        ensures { IfOk result (λ cells. cells.labels.now ≡ labels.now) }
+        ensures labels { IfOk result (λ cells. cells.labels.now ≡ labels.now) }
+        ensures memory { IfErr result (λ fault. fault ≡ Unread.Memory) }
     {
         let mut first_cells = IndexMap::new(alloc);
         for (place, label) in labels.cells.as_slice().iter().enumerate() {
