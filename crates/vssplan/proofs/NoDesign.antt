@@ -1,5 +1,5 @@
 -- What is left of a report of some design, behind the parts that were read.
-use Rattle.std.proofs.Common.{◌≡◌, ◌<◌, ℕ, List, [], ◌∷◌, ◌++◌, All, length, codes, decimal, sym, ◌∙◌, arith}
+use Rattle.std.proofs.Common.{◌≡◌, ◌<◌, ◌^◌, ℕ, List, [], ◌∷◌, ◌++◌, All, length, codes, decimal, refl, sym, ap, ◌∙◌, arith}
 use Rattle.std.specs.List.{flat_map}
 use Rattle.cell_net.specs.Labelled.{AreLabels}
 use Rattle.cell_net.specs.declared.ids.CandidateId.{CandidateId}
@@ -8,9 +8,10 @@ use Rattle.cell_net.specs.declared.plans.Plan.{Plan}
 use Rattle.cell_net.specs.declared.plans.TrainRun.{TrainRun}
 use Rattle.vssplan.specs.Ends.{BeginsWithNoSweep}
 use Rattle.vssplan.specs.Report.{HasPlaceName, IsReportRun, IsDesign, border_text, runs_text}
+use Rattle.vssplan.proofs.EndedWords.{number_same}
 use Rattle.vssplan.proofs.ListItems.{items_within, as_many_read}
 use Rattle.vssplan.proofs.PlaceTexts.{border_same}
-use Rattle.vssplan.proofs.RunTexts.{end_begins, runs_same}
+use Rattle.vssplan.proofs.RunTexts.{after_feed, end_begins, runs_same}
 use Rattle.vssplan.proofs.OneDesign.{heading, report_pieces, after_heading}
 
 -- the runs and the last line
@@ -43,3 +44,13 @@ pub behind_runs : (labels : Labels) (bytes text left : List ℕ) (borders : List
 behind_runs labels bytes text left borders read plan good is each fit ends is_design e =
     (runs_same labels labels.trains read plan.runs left (codes "end\n") good each is_design.one_run_each fit is_design.runs
         (λ some. ends (omega arith)) (end_begins []) (sym is ∙ e)).1
+
+-- what is left behind the heading, the count and the borders
+pub behind_count : (labels : Labels) (bytes s1 s2 s3 s4 : List ℕ) (count : ℕ) (read borders : List CandidateId) (plan : Plan) → AreLabels labels
+    → bytes ≡ heading ++ s1 → count < 10 ^ 9 → s1 ≡ decimal count ++ s2 → s2 ≡ 10 ∷ s3
+    → s3 ≡ flat_map (border_text labels) read ++ s4 → All (HasPlaceName labels) read → length read ≡ count
+    → IsDesign labels bytes borders plan → s4 ≡ tail labels plan
+behind_count labels bytes s1 s2 s3 s4 count read borders plan good first small counted feed is fit all is_design =
+    let here = sym (counted ∙ ap (λ (t : List ℕ). decimal count ++ t) feed) ∙ behind_heading labels bytes s1 borders plan first is_design in
+    let same = number_same count (length borders) (10 ∷ s3) (10 ∷ body labels borders plan) small is_design.few_borders refl refl here in
+    behind_borders labels bytes s3 s4 read borders plan good is fit (all ∙ same.0) is_design (after_feed s3 (body labels borders plan) same.1)
