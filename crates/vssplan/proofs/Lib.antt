@@ -1,5 +1,6 @@
 pub mod CellTexts
 pub mod Design
+pub mod DesignLayout
 pub mod EndedWords
 pub mod FirstCells
 pub mod FourItems
