@@ -5,7 +5,7 @@ use Rattle.vss_io.specs.Shelf.{IsLongerThan}
 use Rattle.vssplan.specs.Words.{FileNames}
 use Rattle.vssplan.specs.Inputs.{name_of, limit}
 use Rattle.vssplan.specs.Run.{Files, Keeps, IsRead, IsTooLong, HasScene, IsRightFor, IsUnlawfulReport}
-use Rattle.vssplan.specs.Stops.{IsRightStop, IsUnread, IsJudged}
+use Rattle.vssplan.specs.Stops.{IsRightStop, IsUnread, IsJudged, IsReportRefused}
 use Rattle.vssplan.specs.declared.answer.Input.{Input}
 use Rattle.vssplan.specs.declared.answer.Input.TheVariants.{Network, Timetable, Report}
 use Rattle.vssplan.specs.declared.answer.Refusal.TheVariants.{NotYet, FileTooLong}
@@ -68,3 +68,23 @@ pub judged_answers : {E : Type 0} (files : Files) (faults : List ℕ → ℕ) (n
     → HasScene files names parts labels → IsRead files names Report report → IfOk r (IsJudged parts labels report) → IfOk r (IsRightFor files faults names)
 judged_answers files faults names parts labels report (Ok said) scene is_read judged = judged_answer files faults names parts labels report said scene is_read judged
 judged_answers files faults names parts labels report (Err e) scene is_read judged = tt
+
+refused_stop : (files : Files) (faults : List ℕ → ℕ) (names : FileNames) (parts : InstanceParts) (labels : Labels) (report : List ℕ) (stop : Stop)
+    → HasScene files names parts labels → IsRead files names Report report → IsReportRefused labels report stop → IsRightStop files faults names stop
+refused_stop files faults names parts labels report (Answer (Refused Report NotYet)) scene is_read refused =
+    record { parts = parts; labels = labels; has_scene = scene; bytes = report; is_read = is_read; is_none = refused }
+refused_stop files faults names parts labels report (Answer (Refused Network NotYet)) scene is_read refused = absurd refused
+refused_stop files faults names parts labels report (Answer (Refused Timetable NotYet)) scene is_read refused = absurd refused
+refused_stop files faults names parts labels report (Answer (Refused Network FileTooLong)) scene is_read refused = absurd refused
+refused_stop files faults names parts labels report (Answer (Refused Timetable FileTooLong)) scene is_read refused = absurd refused
+refused_stop files faults names parts labels report (Answer (Refused Report FileTooLong)) scene is_read refused = absurd refused
+refused_stop files faults names parts labels report (Answer Usage) scene is_read refused = absurd refused
+refused_stop files faults names parts labels report (Answer (ReadFault input)) scene is_read refused = absurd refused
+refused_stop files faults names parts labels report (Answer (Lawful count)) scene is_read refused = absurd refused
+refused_stop files faults names parts labels report (Answer (Breach breach named)) scene is_read refused = absurd refused
+refused_stop files faults names parts labels report Memory scene is_read refused = tt
+
+pub refused_stops : {T : Type 0} (files : Files) (faults : List ℕ → ℕ) (names : FileNames) (parts : InstanceParts) (labels : Labels) (report : List ℕ) (r : Result T Stop)
+    → HasScene files names parts labels → IsRead files names Report report → IfErr r (IsReportRefused labels report) → IfErr r (IsRightStop files faults names)
+refused_stops files faults names parts labels report (Err stop) scene is_read refused = refused_stop files faults names parts labels report stop scene is_read refused
+refused_stops files faults names parts labels report (Ok said) scene is_read refused = tt

@@ -1,4 +1,6 @@
+pub mod Ends
 pub mod FileNames
+pub mod FirstCells
 pub mod Grid
 pub mod Inputs
 pub mod Lines

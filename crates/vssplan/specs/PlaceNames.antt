@@ -1,7 +1,7 @@
 -- The name of a place as it was read, before the place is found.
-use Rattle.std.specs.Prelude.{◌≡◌, ◌<◌, ◌≤◌, ◌^◌, ℕ, List, [], ◌∷◌, ◌++◌, Some, slice_get, codes, decimal}
-use Rattle.vssplan.specs.Lines.{flat}
-use Rattle.vssplan.specs.PrintedNames.{track_name}
+use Rattle.std.specs.Prelude.{◌≡◌, ◌≤◌, ℕ, List, Some, slice_get}
+use Rattle.vssplan.specs.Ends.{Lacks}
+use Rattle.vssplan.specs.PrintedNames.{track_name, cut_text, joint_text}
 use Rattle.vssplan.specs.Report.{IsShort}
 use Rattle.vssplan.specs.declared.report.borders.PlaceName.{PlaceName}
 use Rattle.vssplan.specs.declared.report.borders.PlaceName.TheVariants as name
@@ -11,13 +11,18 @@ use Rattle.cell_net.specs.declared.labels.Labels.{Labels}
 
 -- the text of the name
 abbrev pub name_text : PlaceName → List ℕ
-name_text (name.Cut track at_m) = flat (codes "cut " ∷ track.now ∷ codes " " ∷ decimal at_m ∷ [])
-name_text (name.Joint joint) = flat (codes "joint " ∷ joint.now ∷ [])
+name_text (name.Cut track at_m) = cut_text track.now at_m
+name_text (name.Joint joint) = joint_text joint.now
 
 -- the number in it has at most nine digits
 abbrev pub IsShortName : PlaceName → Type 0
 IsShortName (name.Cut track at_m) = IsShort at_m
 IsShortName (name.Joint joint) = Unit {0}
+
+-- the words in it end where they were read to
+abbrev pub IsPlainName : PlaceName → Type 0
+IsPlainName (name.Cut track at_m) = Lacks 32 track.now
+IsPlainName (name.Joint joint) = Lacks 10 joint.now
 
 -- the place is the one of that name
 abbrev pub IsPlaceOf : Labels → PlaceName → PlaceLabel → Type 0

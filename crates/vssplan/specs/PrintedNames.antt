@@ -25,10 +25,17 @@ label_text labels None = []
 abbrev pub cell_name : Labels → CellId → List ℕ
 cell_name labels cell = label_text labels (slice_get labels.cells cell.0)
 
--- where a border stands, as `cut t1 500` or `joint J`
+-- a cut, as `cut t1 500`, and a joint, as `joint J`
+abbrev pub cut_text : List ℕ → ℕ → List ℕ
+cut_text track at_m = flat (codes "cut " ∷ track ∷ codes " " ∷ decimal at_m ∷ [])
+
+abbrev pub joint_text : List ℕ → List ℕ
+joint_text name = flat (codes "joint " ∷ name ∷ [])
+
+-- where a border stands
 abbrev pub place_text : Labels → Option PlaceLabel → List ℕ
-place_text labels (Some (Cut track at_m)) = flat (codes "cut " ∷ track_name labels track ∷ codes " " ∷ decimal at_m ∷ [])
-place_text labels (Some (Joint name)) = flat (codes "joint " ∷ name ∷ [])
+place_text labels (Some (Cut track at_m)) = cut_text (track_name labels track) at_m
+place_text labels (Some (Joint name)) = joint_text name
 place_text labels None = []
 
 abbrev pub place_name : Labels → CandidateId → List ℕ

@@ -29,10 +29,13 @@ cell_text labels d = cell_name labels d.cell ++ sign d.end
 abbrev pub sweep_text : Labels → Sweep → List ℕ
 sweep_text labels sweep = line (codes "sweep" ++ flat_map (λ d. codes " " ++ cell_text labels d) sweep.cells)
 
--- the lines of a run: the train's name and the step of the first sweep, then the sweeps
+-- the line of a train's name and the step of its first sweep
+abbrev pub start_text : List ℕ → ℕ → List ℕ
+start_text train start = line (flat (codes "run " ∷ train ∷ codes " " ∷ decimal start ∷ []))
+
+-- the lines of a run: its start, then its sweeps
 abbrev pub run_text : Labels → List ℕ → TrainRun → List ℕ
-run_text labels train run =
-    line (flat (codes "run " ∷ train ∷ codes " " ∷ decimal run.start ∷ [])) ++ flat_map (sweep_text labels) run.sweeps
+run_text labels train run = start_text train run.start ++ flat_map (sweep_text labels) run.sweeps
 
 -- the runs of the trains in turn
 abbrev pub runs_text : Labels → List (List ℕ) → List TrainRun → List ℕ
@@ -108,3 +111,8 @@ pub record IsDesign (labels : Labels) (bytes : List ℕ) (borders : List Candida
   pub places : All (HasPlaceName labels) borders
   pub one_run_each : length plan.runs ≡ length labels.trains
   pub runs : All (IsReportRun labels) plan.runs
+
+-- the one design of the bytes
+pub record IsOnlyDesign (labels : Labels) (bytes : List ℕ) (borders : List CandidateId) (plan : Plan) : Type 0 where
+  pub is_design : IsDesign labels bytes borders plan
+  pub only : (others : List CandidateId) (other : Plan) → IsDesign labels bytes others other → (others ≡ borders) × (other ≡ plan)

@@ -7,7 +7,7 @@ use Rattle.vssplan.specs.Words.{FileNames, AskToJudge}
 use Rattle.vssplan.specs.Inputs.{name_of, limit, status_of}
 use Rattle.vssplan.specs.Network.{IsLineNetwork}
 use Rattle.vssplan.specs.Scene.{IsScene}
-use Rattle.vssplan.specs.Report.{IsDesign}
+use Rattle.vssplan.specs.Report.{IsDesign, IsOnlyDesign}
 use Rattle.plan_checker.specs.Verdicts.{IsFirstBreach}
 use Rattle.vssplan.specs.Texts.{answer_text}
 use Rattle.cell_net.specs.Plans.{IsLawful}
@@ -85,13 +85,14 @@ pub record IsNoTimetable (files : Files) (names : FileNames) : Type 0 where
   pub is_read : IsRead files names Timetable bytes
   pub is_none : (parts : InstanceParts) (labels : Labels) → ¬ IsScene has_network.bytes bytes parts labels
 
--- both documents are accepted, and the file of the report was read
+-- both documents are accepted, and the file of the report was read and has no design for their scene
 pub record IsNoReport (files : Files) (names : FileNames) : Type 0 where
   pub parts : InstanceParts
   pub labels : Labels
   pub has_scene : HasScene files names parts labels
   pub bytes : List ℕ
   pub is_read : IsRead files names Report bytes
+  pub is_none : (borders : List CandidateId) (plan : Plan) → ¬ IsDesign labels bytes borders plan
 
 -- the file is the first that isn't accepted
 abbrev pub IsRefused : Files → FileNames → Input → Refusal → Type 0
@@ -100,19 +101,19 @@ IsRefused files names Network NotYet = IsNoNetwork files names
 IsRefused files names Timetable NotYet = IsNoTimetable files names
 IsRefused files names Report NotYet = IsNoReport files names
 
--- the report has a design for the scene whose plan is lawful for the layout, of so many borders
+-- the report has one design for the scene, whose plan is lawful for the layout, of so many borders
 pub record IsLawfulReport (parts : InstanceParts) (labels : Labels) (report : List ℕ) (count : ℕ) : Type 0 where
   pub borders : List CandidateId
   pub plan : Plan
-  pub is_design : IsDesign labels report borders plan
+  pub is_design : IsOnlyDesign labels report borders plan
   pub lawful : IsLawful parts borders plan
   pub count_is : count ≡ length borders
 
--- the report has a design for the scene whose plan isn't lawful for the layout; this is the first breach
+-- the report has one design for the scene, whose plan isn't lawful for the layout; this is the first breach
 pub record IsUnlawfulReport (parts : InstanceParts) (labels : Labels) (report : List ℕ) (breach : Breach) : Type 0 where
   pub borders : List CandidateId
   pub plan : Plan
-  pub is_design : IsDesign labels report borders plan
+  pub is_design : IsOnlyDesign labels report borders plan
   pub unlawful : ¬ IsLawful parts borders plan
   pub first : IsFirstBreach parts borders plan breach
 

@@ -11,7 +11,10 @@ use Rattle.vssplan.specs.declared.answer.Answer.{Answer as Said}
 use Rattle.vssplan.specs.declared.answer.Answer.TheVariants.{Usage, ReadFault, Refused, Lawful, Breach}
 use Rattle.vssplan.specs.declared.stop.Stop.{Stop}
 use Rattle.vssplan.specs.declared.stop.Stop.TheVariants.{Answer, Memory}
+use Rattle.vssplan.specs.Report.{IsDesign}
+use Rattle.cell_net.specs.declared.ids.CandidateId.{CandidateId}
 use Rattle.cell_net.specs.declared.labels.Labels.{Labels}
+use Rattle.cell_net.specs.declared.plans.Plan.{Plan}
 use Rattle.cell_net.specs.declared.parts.InstanceParts.{InstanceParts}
 
 -- the answer that ends the task is right; want of memory may come at any time
@@ -32,8 +35,8 @@ IsJudged parts labels report (Lawful borders) = IsLawfulReport parts labels repo
 IsJudged parts labels report (Breach breach named) = (named ≡ labels) × IsUnlawfulReport parts labels report breach
 IsJudged parts labels report said = ⊥
 
--- the report is refused, or there was not enough memory
-abbrev pub IsReportRefused : Stop → Type 0
-IsReportRefused (Answer (Refused Report NotYet)) = Unit {0}
-IsReportRefused Memory = Unit {0}
-IsReportRefused stop = ⊥
+-- the bytes of a report have no design for the labels, or there was not enough memory
+abbrev pub IsReportRefused : Labels → List ℕ → Stop → Type 0
+IsReportRefused labels report (Answer (Refused Report NotYet)) = (borders : List CandidateId) (plan : Plan) → ¬ IsDesign labels report borders plan
+IsReportRefused labels report Memory = Unit {0}
+IsReportRefused labels report stop = ⊥

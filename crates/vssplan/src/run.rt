@@ -63,18 +63,20 @@ fn judged<H: Shelf>(alloc: Global, names: &FileNames, shelf: &mut H) -> Result<A
 fn judge_report(alloc: Global, scene: Scene, report: &[u8]) -> Result<Answer, Stop>
     requires { length report.now ≤ most Input.Report }
     ensures answer { IfOk result (IsJudged scene.inst scene.labels report.now) }
-    ensures stop { IfErr result IsReportRefused }
+    ensures stop { IfErr result (IsReportRefused scene.labels report.now) }
 {
     let refused = Stop::Answer(Answer::Refused(Input::Report, Refusal::NotYet));
     let Scene { inst, labels } = scene;
+    let _parts = inst.parts();
     let (borders, plan) = match read_design(alloc, &labels, report) {
         Ok(design) => design,
         Err(Unread::NotDesign) => return Err(refused),
         Err(Unread::Memory) => return Err(Stop::Memory),
     };
     let count = borders.len() as u32;
-    let Ok(layout) = Layout::new(&inst, borders) else {
-        return Err(refused);
+    let layout = match Layout::new(&inst, borders) {
+        Ok(layout) => layout,
+        Err(_) => return Err(refused),
     };
     match judge(alloc, &inst, &layout, &plan)? {
         Verdict::Lawful => Ok(Answer::Lawful { borders: count }),

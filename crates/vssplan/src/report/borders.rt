@@ -1,7 +1,11 @@
-ghost use Rattle.std.specs.Prelude.{◌≡◌, ◌<◌, ◌≤◌, ◌++◌, ◌↔◌, ◌∷◌, [], All, length, IfOk, IfSome, IsTrue};
+ghost use Rattle.std.specs.Prelude.{◌≡◌, ◌≢◌, ◌<◌, ◌≤◌, ◌^◌, ◌++◌, ◌↔◌, ◌∷◌, [], List, ℕ, All, length, IfOk, OnErr, IsErrOf, IfSome, IfNone, IsTrue};
 ghost use Rattle.std.specs.List.{AllAdjacentBelow, flat_map};
 ghost use Rattle.vssplan.specs.Lines.{line};
-ghost use Rattle.vssplan.specs.PlaceNames.{name_text, IsShortName, IsPlaceOf, IsFound};
+ghost use Rattle.cell_net.specs.Labelled.{AreLabels};
+ghost use Rattle.cell_net.specs.declared.ids.CandidateId.{CandidateId};
+ghost use Rattle.vssplan.specs.Ends.{Lacks};
+ghost use Rattle.vssplan.specs.PlaceNames.{name_text, IsShortName, IsPlainName, IsPlaceOf, IsFound};
+ghost use Rattle.vssplan.specs.PrintedNames.{cut_text, joint_text};
 ghost use Rattle.vssplan.specs.Report.{HasPlaceName, border_text};
 
 use super::cursor::Cursor;
@@ -22,6 +26,10 @@ impl<'a> PlaceName<'a> {
     fn take(cursor: &mut Cursor<'a>) -> Result<PlaceName<'a>, Unread>
         ensures read { IfOk result (λ name. cursor.old ≡ line (name_text name) ++ cursor.new) }
         ensures short { IfOk result IsShortName }
+        ensures plain { IfOk result IsPlainName }
+        ensures no_cut { OnErr result ((track : List ℕ) (at_m : ℕ) (rest : List ℕ) → Lacks 32 track → at_m < 10 ^ 9
+            → cursor.old ≢ line (cut_text track at_m) ++ rest) }
+        ensures no_joint { OnErr result ((joint rest : List ℕ) → Lacks 10 joint → cursor.old ≢ line (joint_text joint) ++ rest) }
     {
         if cursor.take(b"joint ").is_some() {
             let name = cursor.until(b'\n')?;
@@ -54,7 +62,8 @@ impl<'a> PlaceName<'a> {
 
     /// The place of this name among those from `from` on. Linear in the places up to it.
     fn find(&self, labels: &Labels, from: usize) -> Option<usize>
-        ensures { IfSome result (IsFound labels.now from self.now) }
+        ensures found { IfSome result (IsFound labels.now from self.now) }
+        ensures none { IfNone result ((place : ℕ) → ¬ IsFound labels.now from self.now place) }
     {
         let places = labels.places.as_slice();
         for place in from..places.len() {
@@ -68,14 +77,20 @@ impl<'a> PlaceName<'a> {
 
 /// Reads the line of a border, and finds its place among those from `from` on.
 fn take_border<'a>(labels: &Labels, from: usize, cursor: &mut Cursor<'a>) -> Result<usize, Unread>
+    requires { AreLabels labels.now }
     ensures read { IfOk result (λ place. cursor.old ≡ border_text labels.now (record { 0 = place }) ++ cursor.new) }
     ensures named { IfOk result (λ place. HasPlaceName labels.now (record { 0 = place })) }
     ensures ahead { IfOk result (λ place. from ≤ place) }
     ensures within { IfOk result (λ place. place < length labels.now.places) }
+    ensures none { OnErr result ((candidate : CandidateId) (rest : List ℕ) → HasPlaceName labels.now candidate → from ≤ candidate.0
+        → cursor.old ≢ border_text labels.now candidate ++ rest) }
 {
     cursor.expect(b"border ")?;
     let name = PlaceName::take(cursor)?;
-    name.find(labels, from).ok_or(Unread::NotDesign)
+    match name.find(labels, from) {
+        Some(place) => Ok(place),
+        None => Err(Unread::NotDesign),
+    }
 }
 
 /// Reads so many borders, which have to rise. Linear in the text and the places.
@@ -85,10 +100,15 @@ pub fn take_borders<'a>(
     count: u32,
     cursor: &mut Cursor<'a>,
 ) -> Result<Vec<CandidateId>, Unread>
+    requires good { AreLabels labels.now }
+    requires few { length labels.now.places < 2 ^ 32 }
     ensures read { IfOk result (λ borders. cursor.old ≡ flat_map (border_text labels.now) borders.items ++ cursor.new) }
     ensures all { IfOk result (λ borders. length borders.items ≡ count) }
     ensures rising { IfOk result (λ borders. AllAdjacentBelow (λ b c. b.0 < c.0) borders.items (length borders.items)) }
     ensures named { IfOk result (λ borders. All (HasPlaceName labels.now) borders.items) }
+    ensures none { IsErrOf result Unread.NotDesign → (borders : List CandidateId) (rest : List ℕ) → length borders ≡ count
+        → AllAdjacentBelow (λ b c. b.0 < c.0) borders (length borders) → All (HasPlaceName labels.now) borders
+        → cursor.old ≢ flat_map (border_text labels.now) borders ++ rest }
 {
     let mut borders = Vec::new(alloc);
     let mut from = 0;

@@ -1,6 +1,7 @@
-ghost use Rattle.std.specs.Prelude.{◌≡◌, ◌≢◌, ◌<◌, ◌^◌, ◌++◌, ◌↔◌, List, ℕ, [], decimal, IfSome, IfNone, IfOk, OnOk, IsTrue, ◌∷◌};
+ghost use Rattle.std.specs.Prelude.{◌≡◌, ◌≢◌, ◌<◌, ◌^◌, ◌++◌, ◌↔◌, List, ℕ, [], decimal, IfSome, IfNone, IfOk, OnOk, OnErr, IsTrue, Ok, ◌∷◌};
 ghost use Rattle.std.specs.Char.{is_ascii_digit};
 ghost use Rattle.std.specs.List.{take_while};
+ghost use Rattle.vssplan.specs.Ends.{Lacks, BeginsWithNoDigit};
 
 use super::number::{count_digits, number_of};
 use super::unread::Unread;
@@ -47,14 +48,17 @@ impl<'a> Cursor<'a> {
 
     /// Reads just this text. Linear in the text.
     pub fn expect(&mut self, text: &[u8]) -> Result<(), Unread>
-        ensures { OnOk result (self.old ≡ text.now ++ self.new) }
+        ensures read { OnOk result (self.old ≡ text.now ++ self.new) }
+        ensures none { OnErr result ((rest : List ℕ) → self.old ≢ text.now ++ rest) }
     {
         self.take(text).ok_or(Unread::NotDesign)
     }
 
     /// Reads the bytes before the first `end`, and that byte itself. Linear in these bytes.
     pub fn until(&mut self, end: u8) -> Result<&'a [u8], Unread>
-        ensures { IfOk result (λ word. self.old ≡ word.now ++ end ∷ self.new) }
+        ensures read { IfOk result (λ word. self.old ≡ word.now ++ end ∷ self.new) }
+        ensures first { IfOk result (λ word. Lacks end word.now) }
+        ensures none { OnErr result (Lacks end self.old) }
     {
         let Some(len) = self.rest.iter().position(|byte| *byte == end) else {
             return Err(Unread::NotDesign);
@@ -78,7 +82,12 @@ impl<'a> Cursor<'a> {
     pub fn number(&mut self) -> Result<u32, Unread>
         ensures small { IfOk result (λ n. n < 10 ^ 9) }
         ensures read { IfOk result (λ n. self.old ≡ decimal n ++ self.new) }
+        ensures only { (n : ℕ) (rest : List ℕ) → n < 10 ^ 9 → BeginsWithNoDigit rest → self.old ≡ decimal n ++ rest
+            → (result ≡ Ok n) × (self.new ≡ rest) }
     {
-        number_of(self.digits()).ok_or(Unread::NotDesign)
+        match number_of(self.digits()) {
+            Some(number) => Ok(number),
+            None => Err(Unread::NotDesign),
+        }
     }
 }

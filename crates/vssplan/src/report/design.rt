@@ -1,5 +1,8 @@
-ghost use Rattle.std.specs.Prelude.{IfOk};
-ghost use Rattle.vssplan.specs.Report.{IsDesign};
+ghost use Rattle.std.specs.Prelude.{◌<◌, ◌^◌, List, length, IfOk, IsErrOf};
+ghost use Rattle.cell_net.specs.Labelled.{AreLabels};
+ghost use Rattle.cell_net.specs.declared.ids.CandidateId.{CandidateId};
+ghost use Rattle.cell_net.specs.declared.plans.Plan.{Plan};
+ghost use Rattle.vssplan.specs.Report.{IsDesign, IsOnlyDesign};
 
 use super::borders::take_borders;
 use super::cells::Cells;
@@ -10,14 +13,18 @@ use cell_net::{CandidateId, Labels, Plan};
 use std::alloc::Global;
 use vss_lists::Items;
 
-/// The borders and the plan of a report for the scene of these labels. Linear in the report and the
-/// labels.
+/// The borders and the plan of a report for the scene of these labels: `NotDesign` just where it has
+/// none. Linear in the report and the labels.
 pub fn read_design(
     alloc: Global,
     labels: &Labels,
     bytes: &[u8],
 ) -> Result<(Vec<CandidateId>, Plan), Unread>
-    ensures { IfOk result (λ design. IsDesign labels.now bytes.now design.0.items design.1) }
+    requires good { AreLabels labels.now }
+    requires few_cells { length labels.now.cells < 2 ^ 32 }
+    requires few_places { length labels.now.places < 2 ^ 32 }
+    ensures design { IfOk result (λ design. IsOnlyDesign labels.now bytes.now design.0.items design.1) }
+    ensures none { IsErrOf result Unread.NotDesign → (borders : List CandidateId) (plan : Plan) → ¬ IsDesign labels.now bytes.now borders plan }
 {
     let mut cursor = Cursor::new(bytes);
     cursor.expect(b"vssplan report 1\nverdict done\ndesign ")?;

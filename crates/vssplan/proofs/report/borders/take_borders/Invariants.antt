@@ -1,6 +1,8 @@
-use Rattle.std.proofs.Common.{◌≡◌, ◌<◌, ◌++◌, All, length}
+use Rattle.std.proofs.Common.{◌≡◌, ◌<◌, ◌≤◌, ◌++◌, All, length}
 use Rattle.std.specs.List.{AllAdjacentBelow, flat_map}
+use Rattle.cell_net.specs.declared.ids.CandidateId.{CandidateId}
 use Rattle.vssplan.specs.Report.{HasPlaceName, border_text}
+use Rattle.vssplan.proofs.NoBorder.{IsAbove}
 use Rattle.vssplan.proofs.report.borders.take_borders.Given as goal
 
 abbrev pub invariant-loop : goal.invariant-loop
@@ -10,3 +12,4 @@ invariant-loop l =
     × All (λ b. b.0 < l.from) l.borders.items
     × AllAdjacentBelow (λ b c. b.0 < c.0) l.borders.items (length l.borders.items)
     × All (HasPlaceName l.labels) l.borders.items
+    × ((b : CandidateId) → IsAbove l.borders.items b → l.from ≤ b.0)

@@ -1,4 +1,5 @@
-use Rattle.std.proofs.Common.{◌≡◌, ◌++◌, All, length, take}
+use Rattle.std.proofs.Common.{◌≡◌, ◌<◌, ◌++◌, All, length, take}
+use Rattle.vssplan.specs.Ends.{BeginsWithNoSweep}
 use Rattle.vssplan.specs.Report.{IsReportRun, runs_text}
 use Rattle.vssplan.proofs.report.runs.take_runs.Given as goal
 
@@ -7,3 +8,4 @@ invariant-loop-train l =
     (l.fn.cursor ≡ runs_text l.cells.labels.now (take l.train-index l.trains) l.runs.items ++ l.cursor)
     × (length l.runs.items ≡ l.train-index)
     × All (IsReportRun l.cells.labels.now) l.runs.items
+    × (0 < length l.runs.items → BeginsWithNoSweep l.cursor)
