@@ -4,6 +4,11 @@ pub mod DesignLayout
 pub mod EndedWords
 pub mod FirstCells
 pub mod FourItems
+pub mod LabelLemmas
+pub mod LineCells
+pub mod LineInstance
+pub mod LineSection
+pub mod LineTrains
 pub mod ListItems
 pub mod MemberLemmas
 pub mod NameLemmas
@@ -15,6 +20,7 @@ pub mod NoRun
 pub mod NoSweep
 pub mod Numbers
 pub mod OneDesign
+pub mod OneScene
 pub mod Options
 pub mod Pieces
 pub mod PlaceTexts

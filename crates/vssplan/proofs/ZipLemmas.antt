@@ -1,6 +1,8 @@
--- Two lists that pair item by item, in a loop over the first that makes the second.
-use Rattle.std.proofs.Common.{◌≡◌, ℕ, zero, suc, ◌+◌, ◌<◌, List, [], ◌∷◌, ◌++◌, length, map, take, get_or, arith, subst, sym}
+-- Two lists that pair item by item; first for a loop over the one that makes the other.
+use Rattle.std.proofs.Common.{◌≡◌, ℕ, zero, suc, ◌+◌, ◌<◌, List, [], ◌∷◌, ◌++◌, length, map, take, get_or, slice_get, All, Some, arith, refl, subst, sym}
 use Rattle.std.proofs.lemmas.List.{map_more}
+use Rattle.std.proofs.lemmas.List.Elements.{All-nil, All-cons}
+use Rattle.std.proofs.lemmas.Option.{slice_get_within}
 use Rattle.std.specs.List.{AllZip}
 
 -- one more pair at the end
@@ -33,3 +35,26 @@ pub zip_none : {V X Y : Type 0} (f : V → X) (R : X → Y → Type 0) (vs : Lis
 zip_none f R vs i v within is none ys all =
     let found = zip_at f R vs ys i v within all in
     none found.0 (subst (λ w. R (f w) found.0) (sym is) found.1)
+
+-- the two lists are as long
+pub zip_length : {X Y : Type 0} (R : X → Y → Type 0) (xs : List X) (ys : List Y) → AllZip R xs ys → length ys ≡ length xs
+zip_length R [] [] all = refl
+zip_length R [] (y ∷ ys) all = absurd all
+zip_length R (x ∷ xs) [] all = absurd all
+zip_length R (x ∷ xs) (y ∷ ys) all = let more : length ys ≡ length xs = zip_length R xs ys all.1 in omega arith
+
+-- each item of the second list pairs with some item of the first
+pub zip_item : {X Y : Type 0} (R : X → Y → Type 0) (xs : List X) (ys : List Y) (k : ℕ) (y : Y) → AllZip R xs ys → slice_get ys k ≡ Some y → (x : X) × R x y
+zip_item R [] [] k y all is = absurd (omega (arith, slice_get_within [] k y is))
+zip_item R [] (z ∷ zs) k y all is = absurd all
+zip_item R (x ∷ xs) [] k y all is = absurd all
+zip_item R (x ∷ xs) (z ∷ zs) zero y all is = let same : z ≡ y = cc in (x, subst (R x) same all.0)
+zip_item R (x ∷ xs) (z ∷ zs) (suc k) y all is = zip_item R xs zs k y all.1 is
+
+-- what a pairing says of its second item holds of each item of the second list
+pub zip_second : {X Y : Type 0} (R : X → Y → Type 0) (P : Y → Type 0) → ((x : X) (y : Y) → R x y → P y)
+    → (xs : List X) (ys : List Y) → AllZip R xs ys → All P ys
+zip_second R P says [] [] all = All-nil P
+zip_second R P says [] (y ∷ ys) all = absurd all
+zip_second R P says (x ∷ xs) [] all = absurd all
+zip_second R P says (x ∷ xs) (y ∷ ys) all = All-cons P y ys (says x y all.0) (zip_second R P says xs ys all.1)
