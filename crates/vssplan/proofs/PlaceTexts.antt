@@ -22,7 +22,7 @@ pub cut_parts : (track metres rest : List ℕ)
 cut_parts track metres rest = simp (append_assoc, append-nil)
 
 pub joint_parts : (name rest : List ℕ) → flat (codes "joint " ∷ name ∷ []) ++ 10 ∷ rest ≡ codes "joint " ++ (name ++ 10 ∷ rest)
-joint_parts name rest = simp (append_assoc, append-nil)
+joint_parts name rest = simp append-nil
 
 pub border_parts : (labels : Labels) (candidate : CandidateId) (label : PlaceLabel) (rest : List ℕ) → slice_get labels.places candidate.0 ≡ Some label
     → border_text labels candidate ++ rest ≡ codes "border " ++ (place_text labels (Some label) ++ 10 ∷ rest)
