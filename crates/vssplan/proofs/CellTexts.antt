@@ -68,8 +68,8 @@ cell_same labels good c d r s named also e =
     let within = all_at (λ c. c.track < length labels.tracks) labels.cells c.cell.0 named.label good.cell_tracks named.is_label in
     let inside = all_at (λ c. c.track < length labels.tracks) labels.cells d.cell.0 also.label good.cell_tracks also.is_label in
     let track = word_same 58 (track_name labels named.label.track) (track_name labels also.label.track)
-      (decimal named.label.index ++ (sign c.end ++ r)) (decimal also.label.index ++ (sign d.end ++ s))
-      (track_lacks labels 58 named.label.track good refl within) (track_lacks labels 58 also.label.track good refl inside) parts in
+    (decimal named.label.index ++ (sign c.end ++ r)) (decimal also.label.index ++ (sign d.end ++ s))
+    (track_lacks labels 58 named.label.track good refl within) (track_lacks labels 58 also.label.track good refl inside) parts in
     let number = number_same named.label.index also.label.index (sign c.end ++ r) (sign d.end ++ s) named.short also.short (sign_ends c.end r) (sign_ends d.end s) track.1 in
     let ends = sign_same c.end d.end r s number.1 in
     let place = label_same labels named.label also.label c.cell.0 d.cell.0 good named.is_label also.is_label track.0 number.0 in

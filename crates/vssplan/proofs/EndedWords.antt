@@ -63,6 +63,7 @@ decimal_front n rest small ends = number_front (decimal n) rest (digits_decimal 
 -- two numbers at the front of one text are one
 pub number_same : (m n : ℕ) (r s : List ℕ) → m < 10 ^ 9 → n < 10 ^ 9 → BeginsWithNoDigit r → BeginsWithNoDigit s → decimal m ++ r ≡ decimal n ++ s → (m ≡ n) × (r ≡ s)
 number_same m n r s small also ends ending e =
-    let texts : decimal m ≡ decimal n = sym (decimal_front m r small ends) ∙ ap (take_while is_ascii_digit) e ∙ decimal_front n s also ending in
-    (decimal_injective m n (omega arith) (omega arith) texts,
-      append_cancel_left (decimal m) r s (e ∙ ap (λ (t : List ℕ). t ++ s) (sym texts)))
+    let texts : decimal m ≡ decimal n = sym (decimal_front m r small ends) ∙ ap (take_while is_ascii_digit) e ∙ decimal_front n s also ending in (
+      decimal_injective m n (omega arith) (omega arith) texts,
+      append_cancel_left (decimal m) r s (e ∙ ap (λ (t : List ℕ). t ++ s) (sym texts)),
+    )

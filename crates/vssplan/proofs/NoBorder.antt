@@ -50,7 +50,7 @@ named_by labels (name.Cut track at_m) (place.Cut number metres) r s good is_good
     let parts = sym (cut_parts track.now (decimal at_m) r) ∙ e ∙ cut_parts (track_name labels number) (decimal metres) s in
     let inner = append_cancel_left (codes "cut ") (track.now ++ 32 ∷ (decimal at_m ++ 10 ∷ r)) (track_name labels number ++ 32 ∷ (decimal metres ++ 10 ∷ s)) parts in
     let named = word_same 32 track.now (track_name labels number) (decimal at_m ++ 10 ∷ r) (decimal metres ++ 10 ∷ s)
-      plain (track_lacks labels 32 number good refl (is_good.cut number metres refl)) inner in
+    plain (track_lacks labels 32 number good refl (is_good.cut number metres refl)) inner in
     let cut = number_same at_m metres (10 ∷ r) (10 ∷ s) small short refl refl named.1 in
     (sym named.0, sym cut.0)
 named_by labels (name.Joint joint) (place.Joint other) r s good is_good short plain small e =

@@ -31,7 +31,7 @@ pub behind_track : (labels : Labels) (text track left rest : List ℕ) (d : DirC
 behind_track labels text track left rest d good named lacks read e =
     let within = all_at (λ c. c.track < length labels.tracks) labels.cells d.cell.0 named.label good.cell_tracks named.is_label in
     let same = word_same 58 track (track_name labels named.label.track) left (decimal named.label.index ++ (sign d.end ++ rest)) lacks
-      (track_lacks labels 58 named.label.track good refl within) (sym read ∙ e ∙ cell_parts labels d named.label rest named.is_label) in
+    (track_lacks labels 58 named.label.track good refl within) (sym read ∙ e ∙ cell_parts labels d named.label rest named.is_label) in
     (sym same.0, same.1)
 
 pub no_sign : (text : List ℕ) → ((rest : List ℕ) → text ≢ 43 ∷ rest) → ((rest : List ℕ) → text ≢ 45 ∷ rest) → (end : End) (rest : List ℕ) → text ≢ sign end ++ rest

@@ -43,7 +43,7 @@ pub behind_runs : (labels : Labels) (bytes text left : List ℕ) (borders : List
     → (0 < length labels.trains → BeginsWithNoSweep left) → IsDesign labels bytes borders plan → text ≡ tail labels plan → left ≡ codes "end\n"
 behind_runs labels bytes text left borders read plan good is each fit ends is_design e =
     (runs_same labels labels.trains read plan.runs left (codes "end\n") good each is_design.one_run_each fit is_design.runs
-        (λ some. ends (omega arith)) (end_begins []) (sym is ∙ e)).1
+    (λ some. ends (omega arith)) (end_begins []) (sym is ∙ e)).1
 
 -- what is left behind the heading, the count and the borders
 pub behind_count : (labels : Labels) (bytes s1 s2 s3 s4 : List ℕ) (count : ℕ) (read borders : List CandidateId) (plan : Plan) → AreLabels labels

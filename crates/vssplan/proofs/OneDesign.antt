@@ -41,8 +41,8 @@ design_same labels bytes borders others plan other good is_design also =
     let counted = after_heading (decimal (length borders) ++ 10 ∷ body) (decimal (length others) ++ 10 ∷ second) parts in
     let count = number_same (length borders) (length others) (10 ∷ body) (10 ∷ second) is_design.few_borders also.few_borders refl refl counted in
     let more = items_within (HasPlaceName labels) (border_text labels) (border_same labels good) borders others runs later
-      is_design.places also.places (omega (arith, count.0)) (after_feed body second count.1) in
+    is_design.places also.places (omega (arith, count.0)) (after_feed body second count.1) in
     let stand = as_many_read (HasPlaceName labels) (border_text labels) borders others runs later more count.0 in
     let same = runs_same labels labels.trains plan.runs other.runs (codes "end\n") (codes "end\n") good is_design.one_run_each also.one_run_each is_design.runs also.runs
-      (λ _. end_begins []) (end_begins []) stand.1 in
+    (λ _. end_begins []) (end_begins []) stand.1 in
     (sym stand.0, λ i. record { runs = sym same.0 i })

@@ -22,7 +22,7 @@ pub cut_parts : (track metres rest : List ℕ)
 cut_parts track metres rest = simp (append_assoc, append-nil)
 
 pub joint_parts : (name rest : List ℕ) → flat (codes "joint " ∷ name ∷ []) ++ 10 ∷ rest ≡ codes "joint " ++ (name ++ 10 ∷ rest)
-joint_parts name rest = simp (append_assoc, append-nil)
+joint_parts name rest = simp append-nil
 
 pub border_parts : (labels : Labels) (candidate : CandidateId) (label : PlaceLabel) (rest : List ℕ) → slice_get labels.places candidate.0 ≡ Some label
     → border_text labels candidate ++ rest ≡ codes "border " ++ (place_text labels (Some label) ++ 10 ∷ rest)
@@ -40,7 +40,7 @@ place_same labels (Cut track at) (Cut number metres) r s good is_good also short
     let within = is_good.cut track at refl in
     let inside = also.cut number metres refl in
     let named = word_same 32 (track_name labels track) (track_name labels number) (decimal at ++ 10 ∷ r) (decimal metres ++ 10 ∷ s)
-      (track_lacks labels 32 track good refl within) (track_lacks labels 32 number good refl inside) inner in
+    (track_lacks labels 32 track good refl within) (track_lacks labels 32 number good refl inside) inner in
     let cut = number_same at metres (10 ∷ r) (10 ∷ s) short small refl refl named.1 in
     let same = track_same labels track number good within inside named.0 in
     let where_cut : at ≡ metres = cut.0 in

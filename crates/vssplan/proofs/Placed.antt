@@ -30,7 +30,7 @@ one_place xs i j x differ e f =
     ⊎_elim
     (λ (h : i < j). absurd (differ i j x h also.0 (at.1 x ∙ sym (also.1 x))))
     (λ (h : j ≤ i). ⊎_elim
-        (λ (g : j < i). absurd (differ j i x g at.0 (also.1 x ∙ sym (at.1 x))))
-        (λ (g : i ≤ j). omega arith)
-        (cases_lt j i))
+    (λ (g : j < i). absurd (differ j i x g at.0 (also.1 x ∙ sym (at.1 x))))
+    (λ (g : i ≤ j). omega arith)
+    (cases_lt j i))
     (cases_lt i j)

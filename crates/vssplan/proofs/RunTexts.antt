@@ -36,7 +36,7 @@ run_same labels train x y r s good fit also ends ending e =
     let parts = sym (run_parts labels train x r) ∙ e ∙ run_parts labels train y s in
     let number = number_same x.start y.start (10 ∷ here) (10 ∷ there) fit.start also.start refl refl (after_train train (decimal x.start ++ 10 ∷ here) (decimal y.start ++ 10 ∷ there) parts) in
     let more = items_until (IsReportSweep labels) (sweep_text labels) (sweep_same labels good) x.sweeps y.sweeps r s (no_sweep labels s ending) fit.sweeps also.sweeps
-      (after_feed here there number.1) in
+    (after_feed here there number.1) in
     let same = all_read (IsReportSweep labels) (sweep_text labels) x.sweeps y.sweeps r s more (no_sweep labels r ends) in
     (λ i. record { start = number.0 i; sweeps = same.0 i }, same.1)
 
@@ -91,7 +91,7 @@ runs_go_along labels (train ∷ trains) (x ∷ xs) (y ∷ ys) r s good few each 
     sym (append_assoc (run_text labels train x) before r) ∙ e ∙ append_assoc (run_text labels train y) after s in
     let none = ends (omega arith) in
     let same = run_same labels train x y (before ++ r) (after ++ s) good (all_first (IsReportRun labels) x xs fit) (all_first (IsReportRun labels) y ys also)
-      (runs_begin labels (take (length xs) trains) xs r none) (runs_begin labels trains ys s ending) regrouped in
+    (runs_begin labels (take (length xs) trains) xs r none) (runs_begin labels trains ys s ending) regrouped in
     run_more labels train trains x y xs ys r s same.0
     (runs_go_along labels trains xs ys r s good (omega arith) (omega arith) (all_rest (IsReportRun labels) x xs fit) (all_rest (IsReportRun labels) y ys also) (λ _. none) ending same.1)
 
@@ -108,5 +108,5 @@ pub runs_same : (labels : Labels) (trains : List (List ℕ)) (xs ys : List Train
 runs_same labels trains xs ys r s good each also fit fitting ends ending e =
     let whole : take (length xs) trains ≡ trains = take_all (length xs) trains (omega arith) in
     let more = runs_go_along labels trains xs ys r s good (omega arith) also fit fitting ends ending
-      (ap (λ (ts : List (List ℕ)). runs_text labels ts xs ++ r) whole ∙ e) in
+    (ap (λ (ts : List (List ℕ)). runs_text labels ts xs ++ r) whole ∙ e) in
     none_missing labels trains xs ys more.others r s more.is_more more.is_rest (omega arith) each

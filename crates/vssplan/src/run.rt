@@ -65,18 +65,20 @@ fn judge_report(alloc: Global, scene: Scene, report: &[u8]) -> Result<Answer, St
     ensures answer { IfOk result (IsJudged scene.inst scene.labels report.now) }
     ensures stop { IfErr result (IsReportRefused scene.labels report.now) }
 {
-    let refused = Stop::Answer(Answer::Refused(Input::Report, Refusal::NotYet));
     let Scene { inst, labels } = scene;
+    // for the proof alone: an instance has few cells and candidates
     let _parts = inst.parts();
     let (borders, plan) = match read_design(alloc, &labels, report) {
         Ok(design) => design,
-        Err(Unread::NotDesign) => return Err(refused),
+        Err(Unread::NotDesign) => {
+            return Err(Stop::Answer(Answer::Refused(Input::Report, Refusal::NotYet)));
+        }
         Err(Unread::Memory) => return Err(Stop::Memory),
     };
     let count = borders.len() as u32;
     let layout = match Layout::new(&inst, borders) {
         Ok(layout) => layout,
-        Err(_) => return Err(refused),
+        Err(_) => unreachable!(),
     };
     match judge(alloc, &inst, &layout, &plan)? {
         Verdict::Lawful => Ok(Answer::Lawful { borders: count }),

@@ -5,8 +5,7 @@ use Rattle.vssplan.proofs.report.borders.take_borders.Goals as goal
 
 pub loop-preserved : goal.loop-preserved
 loop-preserved c =
-    let number : c.in_ok-number.number ≡ c.in_ok-place.place = first_of (search rules, grind (arith, common_steps)) in
-    (
+    let number : c.in_ok-number.number ≡ c.in_ok-place.place = first_of (search rules, grind (arith, common_steps)) in (
       first_of (search rules, grind (arith, common_steps)),
       first_of (search rules, grind (arith, common_steps)),
       first_of (search rules, grind (arith, common_steps)),

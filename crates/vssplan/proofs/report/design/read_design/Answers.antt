@@ -17,10 +17,10 @@ returns-clause-design c =
     let at_end : c.expect-3.new.self ≡ [] = search rules in
     let is_design : IsDesign labels c.args.bytes.now borders (record { runs = c.in_ok-runs.runs.items }) = record {
       text = report_parts c.args.bytes.now c.expect.new.self c.number.new.self c.expect-2.new.self c.take_borders.new.cursor c.take_runs.new.cursor c.expect-3.new.self
-        (codes "vssplan report 1\nverdict done\ndesign ") (decimal (length borders)) (flat_map (border_text labels) borders)
-        (runs_text labels labels.trains c.in_ok-runs.runs.items) (codes "end\n")
-        (sym c.new-cursor.ensures ∙ c.in_ok-expect.ensures.read) (rw (← count) c.in_ok-count.ensures.read) c.in_ok-expect-2.ensures.read c.in_ok-borders.ensures.read
-        (rw (c.as_slice.ensures, c.in_ok-cells.ensures.labels) at c.in_ok-runs.ensures.read) c.in_ok-expect-3.ensures.read at_end;
+          (codes "vssplan report 1\nverdict done\ndesign ") (decimal (length borders)) (flat_map (border_text labels) borders)
+          (runs_text labels labels.trains c.in_ok-runs.runs.items) (codes "end\n")
+          (sym c.new-cursor.ensures ∙ c.in_ok-expect.ensures.read) (rw (← count) c.in_ok-count.ensures.read) c.in_ok-expect-2.ensures.read c.in_ok-borders.ensures.read
+          (rw (c.as_slice.ensures, c.in_ok-cells.ensures.labels) at c.in_ok-runs.ensures.read) c.in_ok-expect-3.ensures.read at_end;
       few_borders = rw (← count) c.in_ok-count.ensures.small;
       rising = c.in_ok-borders.ensures.rising;
       places = c.in_ok-borders.ensures.named;
@@ -41,8 +41,8 @@ pub returns-in_err-runs-clause-none : goal.returns-in_err-runs-clause-none
 returns-in_err-runs-clause-none c = λ fault borders plan is_design.
     let labels = c.args.labels.now in
     let left = behind_count labels c.args.bytes.now c.expect.new.self c.number.new.self c.expect-2.new.self c.take_borders.new.cursor c.in_ok-count.count c.in_ok-borders.borders.items borders plan c.requires.good
-      (sym c.new-cursor.ensures ∙ c.in_ok-expect.ensures.read) c.in_ok-count.ensures.small c.in_ok-count.ensures.read c.in_ok-expect-2.ensures.read
-      c.in_ok-borders.ensures.read c.in_ok-borders.ensures.named c.in_ok-borders.ensures.all is_design in
+    (sym c.new-cursor.ensures ∙ c.in_ok-expect.ensures.read) c.in_ok-count.ensures.small c.in_ok-count.ensures.read c.in_ok-expect-2.ensures.read
+    c.in_ok-borders.ensures.read c.in_ok-borders.ensures.named c.in_ok-borders.ensures.all is_design in
     let failed = passed_on c.take_runs.result c.from_residual-in_err-runs.result _ _ c.in_err-runs.was c.from_residual-in_err-runs.ensures.1 fault in
     let none = rw (c.as_slice.ensures, c.in_ok-cells.ensures.labels) at (c.take_runs.ensures.none failed) in
     none plan.runs (codes "end\n") is_design.one_run_each is_design.runs (end_begins []) left
@@ -51,8 +51,8 @@ pub returns-in_err-expect-3-clause-none : goal.returns-in_err-expect-3-clause-no
 returns-in_err-expect-3-clause-none c = λ fault borders plan is_design.
     let labels = c.args.labels.now in
     let left = behind_count labels c.args.bytes.now c.expect.new.self c.number.new.self c.expect-2.new.self c.take_borders.new.cursor c.in_ok-count.count c.in_ok-borders.borders.items borders plan c.requires.good
-      (sym c.new-cursor.ensures ∙ c.in_ok-expect.ensures.read) c.in_ok-count.ensures.small c.in_ok-count.ensures.read c.in_ok-expect-2.ensures.read
-      c.in_ok-borders.ensures.read c.in_ok-borders.ensures.named c.in_ok-borders.ensures.all is_design in
+    (sym c.new-cursor.ensures ∙ c.in_ok-expect.ensures.read) c.in_ok-count.ensures.small c.in_ok-count.ensures.read c.in_ok-expect-2.ensures.read
+    c.in_ok-borders.ensures.read c.in_ok-borders.ensures.named c.in_ok-borders.ensures.all is_design in
     let runs = rw (c.as_slice.ensures, c.in_ok-cells.ensures.labels) at c.in_ok-runs.ensures.read in
     let each = rw c.as_slice.ensures at c.in_ok-runs.ensures.one_each in
     let fit : All (IsReportRun labels) c.in_ok-runs.runs.items = rw (← c.in_ok-cells.ensures.labels) c.in_ok-runs.ensures.fit in
@@ -64,8 +64,8 @@ pub returns-then-not-is_at_end-clause-none : goal.returns-then-not-is_at_end-cla
 returns-then-not-is_at_end-clause-none c = λ fault borders plan is_design.
     let labels = c.args.labels.now in
     let left = behind_count labels c.args.bytes.now c.expect.new.self c.number.new.self c.expect-2.new.self c.take_borders.new.cursor c.in_ok-count.count c.in_ok-borders.borders.items borders plan c.requires.good
-      (sym c.new-cursor.ensures ∙ c.in_ok-expect.ensures.read) c.in_ok-count.ensures.small c.in_ok-count.ensures.read c.in_ok-expect-2.ensures.read
-      c.in_ok-borders.ensures.read c.in_ok-borders.ensures.named c.in_ok-borders.ensures.all is_design in
+    (sym c.new-cursor.ensures ∙ c.in_ok-expect.ensures.read) c.in_ok-count.ensures.small c.in_ok-count.ensures.read c.in_ok-expect-2.ensures.read
+    c.in_ok-borders.ensures.read c.in_ok-borders.ensures.named c.in_ok-borders.ensures.all is_design in
     let runs = rw (c.as_slice.ensures, c.in_ok-cells.ensures.labels) at c.in_ok-runs.ensures.read in
     let each = rw c.as_slice.ensures at c.in_ok-runs.ensures.one_each in
     let fit : All (IsReportRun labels) c.in_ok-runs.runs.items = rw (← c.in_ok-cells.ensures.labels) c.in_ok-runs.ensures.fit in

@@ -38,11 +38,11 @@ returns-then-label-index-clause-none c = λ cell named.
     let number : c.in_ok-label.label.now.index ≡ named.label.index = cc in
     let track : c.in_ok-label.label.now.track ≡ named.label.track = cc in
     elim c.then-label-index.branch [
-      then-label-index-via-then-label-index w ↦ w.if-label-index.true (number ∙ named.in_order)
+      | then-label-index-via-then-label-index w ↦ w.if-label-index.true (number ∙ named.in_order)
       | then-label-index-via-else-label-index+then-ne w ↦
-        let named_so = w.name_of_track.ensures ∙ ap (track_name c.args.self.now.labels.now) track ∙ named.on_track in
-        let same_name = bytes_same w.name_of_track.result.now c.args.track.now named_so in
-        let no_other : w.ne.result ≡ false = w.ne.ensures ∙ ap not same_name in
-        let is_other = w.if-ne.true in
-        cc
+          let named_so = w.name_of_track.ensures ∙ ap (track_name c.args.self.now.labels.now) track ∙ named.on_track in
+          let same_name = bytes_same w.name_of_track.result.now c.args.track.now named_so in
+          let no_other : w.ne.result ≡ false = w.ne.ensures ∙ ap not same_name in
+          let is_other = w.if-ne.true in
+          cc
     ]
