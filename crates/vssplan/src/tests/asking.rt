@@ -75,7 +75,7 @@ fn expect_ending(
     let found = run(alloc, words.as_slice(), shelf, &mut out);
     let wanted = format!(in alloc; "{line}\n")?;
     assert_eq!(rt; out.written(), wanted.as_bytes(), "wanted {line} for {row}");
-    assert_eq!(rt; found as u8, status, "{line} for {row}");
+    assert_eq!(rt; found.number(), status, "{line} for {row}");
     Ok(())
 }
 

@@ -21,7 +21,7 @@ fn a_put_that_fails_leaves_a_front_of_the_line(rt: HostRuntime) -> Result<(), Fa
         let words = words_of(rt.alloc(), words)?;
         let mut out = MemSink::new(rt.alloc(), 1000, vec![in rt.alloc(); 0]?)?;
         let status = run(rt.alloc(), words.as_slice(), &mut shelf, &mut out);
-        assert_eq!(rt; status as u8, 5, "at {written}");
+        assert_eq!(rt; status.number(), 5, "at {written}");
         assert_eq!(rt; out.written(), written.as_bytes());
     }
     Ok(())
@@ -42,7 +42,7 @@ fn a_line_that_does_not_fit_is_a_write_fault(rt: HostRuntime) -> Result<(), Fail
         let words = words_of(rt.alloc(), JUDGE)?;
         let mut out = MemSink::new(rt.alloc(), *room, Vec::new(rt.alloc()))?;
         let status = run(rt.alloc(), words.as_slice(), &mut shelf, &mut out);
-        assert_eq!(rt; status as u8, *wanted, "at {written}");
+        assert_eq!(rt; status.number(), *wanted, "at {written}");
         assert_eq!(rt; out.written(), written.as_bytes());
     }
     Ok(())
@@ -56,7 +56,7 @@ fn devices_that_never_fail_get_an_answer(rt: HostRuntime) -> Result<(), Fail> {
         let mut shelf = SureShelf::new(rt.alloc(), files);
         let mut out = SureSink::new();
         let status = run(rt.alloc(), words.as_slice(), &mut shelf, &mut out);
-        assert_eq!(rt; status as u8, wanted);
+        assert_eq!(rt; status.number(), wanted);
     }
     Ok(())
 }
