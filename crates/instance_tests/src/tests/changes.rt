@@ -80,16 +80,26 @@ pub(super) fn check_rows(
 ) -> Result<(), Fail> {
     for place in 0..rows.len() {
         let (changes, want) = rows[place];
-        let found = match build(rt, alloc, base, changes)? {
-            Ok(_) => Ok(()),
-            Err(refusal) => Err(refusal),
-        };
+        let found = answer(rt, alloc, base, changes)?;
         assert_eq!(rt; found, want, "row {place}");
     }
     Ok(())
 }
 
-/// What is answered to the parts that the changes of the base make, and then these.
+/// Whether what the changes make, after those of the base, is refused, and why.
+pub(super) fn answer(
+    rt: &impl Abort,
+    alloc: Global,
+    base: &[&[Change]],
+    changes: &[Change],
+) -> Result<Result<(), BuildRefusal>, AllocError> {
+    match build(rt, alloc, base, changes)? {
+        Ok(_) => Ok(Ok(())),
+        Err(refusal) => Ok(Err(refusal)),
+    }
+}
+
+/// Builds what the changes make, after those of the base.
 pub(super) fn build(
     rt: &impl Abort,
     alloc: Global,

@@ -3,12 +3,14 @@
 ghost use Rattle.std.specs.Prelude.{◌<◌, ◌^◌, length};
 
 use super::changes::Change::{Candidates, Cells, Kept};
-use super::changes::{NO_CELLS, build};
+use super::changes::{Change, NO_CELLS, build};
 use cell_net::LayoutRefusal::{NotRising, OutOfRange};
 use cell_net::{CandidateId, Instance, Layout, LayoutRefusal};
 use std::alloc::{AllocError, Global};
 use std::process::Abort;
 use std::test::Fail;
+
+const FIVE_CELLS: &[&[Change]] = &[NO_CELLS, &[Cells(5)]];
 
 /// Borders, and what is answered to them.
 type Row = (&'static [u32], Result<(), LayoutRefusal>);
@@ -32,31 +34,37 @@ fn layout_of(
     Ok(Layout::new(inst, borders))
 }
 
-/// Wants the answer of each row, and of a layout its borders.
-fn check_rows(rt: &impl Abort, alloc: Global, inst: &Instance, rows: &[Row]) -> Result<(), Fail> {
+/// Wants the answer of each row on five cells with these candidates and kept ones.
+fn check_rows(
+    rt: &impl Abort,
+    alloc: Global,
+    candidates: &[Change],
+    rows: &[Row],
+) -> Result<(), Fail> {
+    let inst = build(rt, alloc, FIVE_CELLS, candidates)??;
     for place in 0..rows.len() {
         let (borders, want) = rows[place];
-        let found = match layout_of(rt, alloc, inst, borders)? {
-            Ok(layout) => {
-                check_borders(rt, alloc, &layout, borders)?;
-                Ok(())
-            }
-            Err(refusal) => Err(refusal),
-        };
+        let found = answer(rt, alloc, &inst, borders)?;
         assert_eq!(rt; found, want, "row {place}");
     }
     Ok(())
 }
 
-fn check_borders(
+/// Whether the borders are refused, and why; of a layout its borders have to be these.
+fn answer(
     rt: &impl Abort,
     alloc: Global,
-    layout: &Layout,
+    inst: &Instance,
     borders: &[u32],
-) -> Result<(), AllocError> {
-    let borders = borders_of(alloc, borders)?;
-    assert_eq!(rt; layout.borders(), borders.as_slice());
-    Ok(())
+) -> Result<Result<(), LayoutRefusal>, AllocError> {
+    match layout_of(rt, alloc, inst, borders)? {
+        Ok(layout) => {
+            let borders = borders_of(alloc, borders)?;
+            assert_eq!(rt; layout.borders(), borders.as_slice());
+            Ok(Ok(()))
+        }
+        Err(refusal) => Ok(Err(refusal)),
+    }
 }
 
 static ROWS: [Row; 19] = [
@@ -88,9 +96,7 @@ static ROWS: [Row; 19] = [
 
 #[test]
 fn borders_rise_and_are_candidates(rt: HostRuntime) -> Result<(), Fail> {
-    let alloc = rt.alloc();
-    let inst = build(&rt, alloc, &[NO_CELLS], &[Cells(5), Candidates(4)])??;
-    check_rows(&rt, alloc, &inst, &ROWS)
+    check_rows(&rt, rt.alloc(), &[Candidates(4)], &ROWS)
 }
 
 static WITHOUT_CANDIDATES: [Row; 3] = [
@@ -101,26 +107,28 @@ static WITHOUT_CANDIDATES: [Row; 3] = [
 
 #[test]
 fn without_candidates_the_empty_list_alone_is_taken(rt: HostRuntime) -> Result<(), Fail> {
-    let alloc = rt.alloc();
-    let inst = build(&rt, alloc, &[NO_CELLS], &[Cells(5)])??;
-    check_rows(&rt, alloc, &inst, &WITHOUT_CANDIDATES)
+    check_rows(&rt, rt.alloc(), &[], &WITHOUT_CANDIDATES)
 }
 
 static WITHOUT_THE_KEPT: [Row; 2] = [(&[], Ok(())), (&[0], Ok(()))];
 
 #[test]
 fn borders_without_the_kept_one_are_taken(rt: HostRuntime) -> Result<(), Fail> {
-    let alloc = rt.alloc();
-    let inst = build(&rt, alloc, &[NO_CELLS], &[Cells(5), Candidates(4), Kept(1)])??;
-    check_rows(&rt, alloc, &inst, &WITHOUT_THE_KEPT)
+    check_rows(
+        &rt,
+        rt.alloc(),
+        &[Candidates(4), Kept(1)],
+        &WITHOUT_THE_KEPT,
+    )
 }
 
 #[test]
 fn a_layout_has_its_borders_alone(rt: HostRuntime) -> Result<(), Fail> {
-    let alloc = rt.alloc();
-    let inst = build(&rt, alloc, &[NO_CELLS], &[Cells(5), Candidates(4)])??;
-    let layout = layout_of(&rt, alloc, &inst, &[0, 3])??;
-    let has = [0, 1, 2, 3, 4].map(|border| layout.has(CandidateId(border)));
-    assert_eq!(rt; has, [true, false, false, true, false]);
+    let inst = build(&rt, rt.alloc(), FIVE_CELLS, &[Candidates(4)])??;
+    let layout = layout_of(&rt, rt.alloc(), &inst, &[0, 3])??;
+    for border in 0..5 {
+        let want = border == 0 || border == 3;
+        assert_eq!(rt; layout.has(CandidateId(border)), want, "border {border}");
+    }
     Ok(())
 }

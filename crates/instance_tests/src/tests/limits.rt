@@ -4,7 +4,7 @@ use super::changes::Change::{
     Candidate, Candidates, Cell, Cells, Join, Kept, Nodes, Sections, Station, Steps, Train, Trains,
 };
 use super::changes::TrainChange::{Advance, Entry, Goal, Length, Stops, Times};
-use super::changes::{NO_CELLS, Row, TRACK, check_rows};
+use super::changes::{Change, NO_CELLS, Row, TRACK, check_rows};
 use cell_net::BuildRefusal::{
     BadCandidate, BadCell, BadJoin, BadKept, BadSection, BadStation, BadSteps, BadTrain,
 };
@@ -121,6 +121,8 @@ fn candidates_rise_and_part_two_cells_of_a_section(rt: HostRuntime) -> Result<()
     check_rows(&rt, rt.alloc(), &[TRACK], &CANDIDATES)
 }
 
+const TWO_CANDIDATES: &[Change] = &[Candidate(1), Candidate(3)];
+
 static KEPT: [Row; 8] = [
     (&[Kept(0)], Ok(())),
     (&[Kept(1)], Ok(())),
@@ -138,8 +140,7 @@ static KEPT_OF_NONE: [Row; 1] = [(&[Kept(0)], Err(BadKept(0)))];
 
 #[test]
 fn kept_candidates_rise_and_are_candidates(rt: HostRuntime) -> Result<(), Fail> {
-    let candidates = [Candidate(1), Candidate(3)];
-    check_rows(&rt, rt.alloc(), &[TRACK, &candidates], &KEPT)?;
+    check_rows(&rt, rt.alloc(), &[TRACK, TWO_CANDIDATES], &KEPT)?;
     check_rows(&rt, rt.alloc(), &[TRACK], &KEPT_OF_NONE)
 }
 
@@ -190,6 +191,8 @@ fn trains_are_of_1_to_64_cells_and_in_time(rt: HostRuntime) -> Result<(), Fail> 
     check_rows(&rt, rt.alloc(), &[TRACK], &TRAINS)
 }
 
+const TWO_STATIONS: &[Change] = &[Station(&[1]), Station(&[2])];
+
 static STOPS: [Row; 11] = [
     (&[Train(Stops(&[(0, 1, 4, 2)]))], Ok(())),
     (&[Train(Stops(&[(0, 1, 4, 3)]))], Ok(())),
@@ -216,12 +219,12 @@ static STOPS: [Row; 11] = [
 
 #[test]
 fn stops_are_at_stations_and_fit_their_windows(rt: HostRuntime) -> Result<(), Fail> {
-    let stations = [Station(&[1]), Station(&[2])];
-    check_rows(&rt, rt.alloc(), &[TRACK, &stations], &STOPS)
+    check_rows(&rt, rt.alloc(), &[TRACK, TWO_STATIONS], &STOPS)
 }
 
-static COUNTS: [Row; 10] = [
+static COUNTS: [Row; 11] = [
     (&[], Ok(())),
+    (&[Nodes(0), Sections(0)], Ok(())),
     (&[Cells(999)], Ok(())),
     (&[Cells(1_000)], Ok(())),
     (&[Cells(1_001)], Err(BadCell(1_000))),
@@ -238,7 +241,10 @@ fn there_are_at_most_1000_cells_512_candidates_and_32_trains(rt: HostRuntime) ->
     check_rows(&rt, rt.alloc(), &[NO_CELLS], &COUNTS)
 }
 
-/// The highest number of a node or section, where there are as many as can be stated.
+/// As many nodes and sections as can be stated.
+const MOST: &[Change] = &[Nodes(u32::MAX), Sections(u32::MAX)];
+
+/// The last of so many.
 const LAST: u32 = u32::MAX - 1;
 
 static HIGHEST: [Row; 10] = [
@@ -267,9 +273,8 @@ static HIGHEST: [Row; 10] = [
 fn the_highest_numbers_of_nodes_and_sections_are_answered_at_once(
     rt: HostRuntime,
 ) -> Result<(), Fail> {
-    let highest = [Nodes(u32::MAX), Sections(u32::MAX)];
     let start = Instant::now(&rt)?;
-    check_rows(&rt, rt.alloc(), &[TRACK, &highest], &HIGHEST)?;
+    check_rows(&rt, rt.alloc(), &[TRACK, MOST], &HIGHEST)?;
     assert!(rt; start.elapsed(&rt)? < Duration::from_secs(5));
     Ok(())
 }

@@ -4,7 +4,7 @@ use super::changes::Change::{
     Candidate, Candidates, Cell, Cells, Join, Kept, Station, Steps, Train, Trains,
 };
 use super::changes::TrainChange::{Advance, Goal, Length};
-use super::changes::{Change, NO_CELLS, Row, TRACK, build, check_rows};
+use super::changes::{Change, NO_CELLS, Row, TRACK, answer, check_rows};
 use cell_net::BuildRefusal;
 use cell_net::BuildRefusal::{
     BadCandidate, BadCell, BadJoin, BadKept, BadSection, BadStation, BadSteps, BadTrain,
@@ -54,8 +54,8 @@ fn of_all_rules_that_are_broken_the_first_is_told(rt: HostRuntime) -> Result<(),
     let mut faults = Vec::new(rt.alloc());
     for (fault, want) in &FAULTS {
         faults.push(*fault)?;
-        let found = build(&rt, rt.alloc(), &[TRACK], &faults)?.err();
-        assert_eq!(rt; found, Some(*want));
+        let found = answer(&rt, rt.alloc(), &[TRACK], &faults)?;
+        assert_eq!(rt; found, Err(*want));
     }
     Ok(())
 }

@@ -7,6 +7,7 @@ use super::changes::TrainChange::{Stops, Times};
 use super::changes::{Change, TRACK, build};
 use cell_net::{
     CandidateId, CellId, CellSpec, Instance, NodeId, SectionId, StationId, StopSpec, TrainId,
+    TrainSpec,
 };
 use std::process::Abort;
 use std::test::Fail;
@@ -24,42 +25,76 @@ const MORE: &[Change] = &[
 #[test]
 fn an_instance_keeps_its_parts(rt: HostRuntime) -> Result<(), Fail> {
     let inst = build(&rt, rt.alloc(), &[TRACK], MORE)??;
-    assert_eq!(rt; inst.steps(), 10);
-    assert_eq!(rt; inst.parts().nodes, 6);
-    assert_eq!(rt; inst.parts().sections, 3);
-    assert_eq!(rt; inst.cell_count(), 4);
+    assert_eq!(rt; counts_of(&inst), [10, 6, 3, 4, 2, 2]);
+    check_cell(&rt, &inst);
+    check_candidates(&rt, &inst);
+    check_station(&rt, &inst);
+    check_train(&rt, &inst);
+    check_stops(&rt, &inst);
+    Ok(())
+}
+
+/// How many steps, nodes, sections, cells, candidates and trains there are.
+fn counts_of(inst: &Instance) -> [u32; 6] {
+    let parts = inst.parts();
+    [
+        inst.steps(),
+        parts.nodes,
+        parts.sections,
+        inst.cell_count(),
+        inst.candidate_count(),
+        inst.train_count(),
+    ]
+}
+
+fn check_cell(rt: &impl Abort, inst: &Instance) {
     let cell = CellSpec {
         low: NodeId(2),
         high: NodeId(3),
         section: SectionId(1),
         limit: 20,
     };
+    assert!(rt; 2 < inst.cell_count());
     assert_eq!(rt; inst.cell(CellId(2)), cell);
-    assert_eq!(rt; inst.parts().joins.len(), 3);
-    assert_eq!(rt; inst.candidate_count(), 2);
-    assert_eq!(rt; inst.candidate(CandidateId(1)), NodeId(3));
-    assert_eq!(rt; inst.kept(), [CandidateId(1)].as_slice());
-    assert_eq!(rt; inst.parts().stations.len(), 2);
-    let station = [CellId(3), CellId(2)];
-    assert_eq!(rt; inst.station(StationId(1)), station.as_slice());
-    check_trains(&rt, &inst);
-    Ok(())
 }
 
-fn check_trains(rt: &impl Abort, inst: &Instance) {
-    assert_eq!(rt; inst.train_count(), 2);
-    let train = inst.train(TrainId(0));
-    assert_eq!(rt;
-        [train.length, train.advance, train.start, train.by],
-        [1, 1, 2, 7]
-    );
-    assert_eq!(rt; [train.entry.cell, train.goal.cell], [CellId(0), CellId(3)]);
-    assert_eq!(rt; train.stops.len(), 0);
+fn check_candidates(rt: &impl Abort, inst: &Instance) {
+    assert!(rt; 1 < inst.candidate_count());
+    assert_eq!(rt; inst.candidate(CandidateId(1)), NodeId(3));
+    assert_eq!(rt; inst.kept(), [CandidateId(1)].as_slice());
+}
+
+fn check_station(rt: &impl Abort, inst: &Instance) {
+    let cells = [CellId(3), CellId(2)];
+    assert_eq!(rt; inst.parts().stations.len(), 2);
+    assert_eq!(rt; inst.station(StationId(1)), cells.as_slice());
+}
+
+fn check_train(rt: &impl Abort, inst: &Instance) {
+    assert!(rt; 0 < inst.train_count());
+    assert_eq!(rt; numbers_of(inst.train(TrainId(0))), [1, 1, 0, 3, 2, 7]);
+}
+
+/// The length, the advance, the entry and the goal, and the first and the last step.
+fn numbers_of(train: &TrainSpec) -> [u32; 6] {
+    [
+        train.length,
+        train.advance,
+        train.entry.cell.0,
+        train.goal.cell.0,
+        train.start,
+        train.by,
+    ]
+}
+
+fn check_stops(rt: &impl Abort, inst: &Instance) {
     let stop = StopSpec {
         station: StationId(1),
         from: 3,
         until: 6,
         dwell: 2,
     };
-    assert_eq!(rt; inst.train(TrainId(1)).stops.as_slice(), [stop].as_slice());
+    assert!(rt; 1 < inst.train_count());
+    let train = inst.train(TrainId(1));
+    assert_eq!(rt; train.stops.as_slice(), [stop].as_slice());
 }
