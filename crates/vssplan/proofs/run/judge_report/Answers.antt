@@ -17,3 +17,7 @@ pub judge-requires-clause-short : goal.judge-requires-clause-short
 judge-requires-clause-short c = λ k d lt.
     omega (arith, c.requires, design_fits c.args.scene.labels c.args.report.now c.in-Ok.design.0.items c.in-Ok.design.1 k d c.in-Ok.ensures.design.is_design lt)
 
+pub unreachable-requires : goal.unreachable-requires
+unreachable-requires c =
+    is_no_refusal c.args.scene.inst c.args.scene.labels c.args.report.now c.in-Ok.design.0.items c.in-Ok.design.1 c.in-Err.field-0 c.args.scene.labelled
+    c.in-Ok.ensures.design.is_design c.in-Err.ensures.refusal
