@@ -1,14 +1,11 @@
 -- A refusal excludes the good case, and every other refusal.
-use Rattle.std.proofs.Common.{◌≡◌, ◌≢◌, ◌<◌, ◌≤◌, ◌⊎◌, inl, inr, ℕ, List, refl, sym, ap, arith}
-use Rattle.std.proofs.lemmas.Bool.{cases_eq, cases_lt}
+use Rattle.std.proofs.Common.{◌≡◌, ◌≢◌, ◌<◌, inl, inr, ℕ, List, refl, ap, arith}
+use Rattle.std.proofs.lemmas.Bool.{cases_lt}
 use Rattle.vss_lists.specs.Breaks.{BreaksFirstAt, HoldsOfEach}
-use Rattle.cell_net.specs.Borders.{IsBorderSet, IsCandidate, RisesAt}
-use Rattle.cell_net.specs.Rules.{IsInstance}
 use Rattle.cell_net.specs.Sections.{HasGoodSections, IsFirstBadSection}
-use Rattle.cell_net.specs.Refusals.{IsRefusal, IsLayoutRefusal}
+use Rattle.cell_net.specs.Refusals.{IsRefusal}
 use Rattle.cell_net.specs.Laws.{HasOneLayoutRefusal, HasOneRefusal, RefusesNoInstance, RefusesNoLayout}
 use Rattle.cell_net.specs.declared.ids.CandidateId.{CandidateId}
-use Rattle.cell_net.specs.declared.layout.LayoutRefusal.{LayoutRefusal}
 use Rattle.cell_net.specs.declared.layout.LayoutRefusal.TheVariants.{NotRising, OutOfRange}
 use Rattle.cell_net.specs.declared.build.BuildRefusal.{BuildRefusal}
 use Rattle.cell_net.specs.declared.build.BuildRefusal.TheVariants.{BadSteps, BadCell, BadJoin, BadSection, BadCandidate, BadKept, BadStation, BadTrain, Memory}

@@ -1,5 +1,5 @@
 -- On the rules of an instance.
-use Rattle.std.proofs.Common.{◌≡◌, ◌<◌, ◌≤◌, ◌⊎◌, inl, inr, ℕ, List, length, All, Some, slice_get, slice_index_or, sym, ◌∙◌, ap, arith}
+use Rattle.std.proofs.Common.{◌≡◌, ◌<◌, ◌≤◌, inl, inr, ℕ, List, length, All, Some, slice_index_or, sym, ◌∙◌, ap, arith}
 use Rattle.std.proofs.lemmas.Option.{slice_get_cases, slice_get-get_or, slice_get_within, same_Some}
 use Rattle.vss_lists.specs.Breaks.{HoldsOfEach}
 use Rattle.cell_net.specs.Rules.{IsNodeOf, node_at, IsGoodCandidate, IsGoodCell, IsGoodTrain, IsGoodJoin}

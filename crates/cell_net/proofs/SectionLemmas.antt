@@ -1,22 +1,20 @@
 -- Good sections are parts of segments that are trees.
-use Rattle.std.proofs.Common.{◌≡◌, ◌+◌, ◌<◌, ◌≤◌, ◌⊎◌, ◌↔◌, inl, inr, ℕ, suc, zero, Bool, cond, true, false, List, [], ◌∷◌, map, length, get_or, Any, Contains, Option, Some, None, MatchOption, slice_get, count_by, refl, sym, subst, ◌∙◌, ap, arith, eqb}
-use Rattle.std.proofs.lemmas.Bool.{cases_lt, ne_eqb}
+use Rattle.std.proofs.Common.{◌≡◌, ◌+◌, ◌≤◌, ◌↔◌, inl, inr, ℕ, Bool, cond, true, false, List, [], ◌∷◌, map, length, get_or, Any, Option, Some, None, MatchOption, count_by, refl, sym, subst, ◌∙◌, ap, arith, eqb}
+use Rattle.std.proofs.lemmas.Bool.{cases_lt}
 use Rattle.std.proofs.lemmas.List.{get_or-map, get_or_default, length-map}
 use Rattle.std.proofs.lemmas.List.Recursion.{is_count_by}
 use Rattle.std.proofs.lemmas.List.Sums.{length-filter}
 use Rattle.std.proofs.lemmas.Option.{slice_get_cases}
 use Rattle.std.specs.List.{filter}
 use Rattle.vss_lists.specs.Breaks.{HoldsOfEach}
-use Rattle.cell_net.specs.Borders.{IsAtEnd, IsInSection, Linked}
+use Rattle.cell_net.specs.Borders.{IsInSection}
 use Rattle.cell_net.specs.Rules.{IsGoodCell}
 use Rattle.cell_net.specs.Sections.{IsConnected, cell_count, IsTouched, HasMoreNodes, IsGoodSection, HasGoodSections, IsFirstBadSection}
 use Rattle.cell_net.specs.Segments.{AreBarriers, segment_of}
 use Rattle.cell_net.specs.declared.ids.CellId.{CellId}
-use Rattle.cell_net.specs.declared.ids.NodeId.{NodeId}
-use Rattle.cell_net.specs.declared.cells.CellSpec.{CellSpec}
 use Rattle.cell_net.specs.declared.parts.InstanceParts.{InstanceParts}
 use Rattle.cell_net.proofs.SegmentLemmas.{cell_at, end_of_cell, end_of_segment, linked_as_reached, segment_at}
-use Rattle.node_groups.specs.Parts.{HasMoreNodes as HasMorePartNodes, IsConnected as IsConnectedPart, IsOfPart, IsNodeOf, NamesEach, IsTree, FailsFirst, Finds, segment_count}
+use Rattle.node_groups.specs.Parts.{HasMoreNodes as HasMorePartNodes, IsConnected as IsConnectedPart, IsOfPart, IsNodeOf, IsTree, Finds, segment_count}
 use Rattle.node_groups.proofs.PartLaws.{names_alike, some_of_part}
 use Rattle.node_groups.specs.Touch.{HasEnd}
 use Rattle.node_groups.specs.declared.segments.Segment.{Segment}

@@ -1,7 +1,7 @@
 -- Linked cells are segments that reach each other.
-use Rattle.std.proofs.Common.{◌≡◌, ◌<◌, ◌⊎◌, ◌↔◌, inl, inr, ℕ, List, [], map, Contains, Some, slice_get, option_map, refl, sym, subst, ◌∙◌, ap, arith}
+use Rattle.std.proofs.Common.{◌≡◌, ◌↔◌, inl, inr, ℕ, List, map, Some, slice_get, option_map, refl, sym, subst, ◌∙◌, ap}
 use Rattle.std.proofs.lemmas.Option.{slice_get-map, slice_get_cases}
-use Rattle.cell_net.specs.Borders.{IsBorder, IsAtEnd, Meet, Linked}
+use Rattle.cell_net.specs.Borders.{IsAtEnd, Meet, Linked}
 use Rattle.cell_net.specs.Segments.{AreBarriers, segment_of}
 use Rattle.cell_net.specs.declared.ids.CellId.{CellId}
 use Rattle.cell_net.specs.declared.ids.NodeId.{NodeId}

@@ -1,5 +1,5 @@
 -- The index of joins by cell end, which only this crate's code and proofs see.
-use Rattle.std.specs.Prelude.{◌≡◌, ◌<◌, ◌≤◌, ◌+◌, ◌*◌, ◌^◌, ◌↔◌, ℕ, List, length, All, Any, slice_index, Contains}
+use Rattle.std.specs.Prelude.{◌≡◌, ◌<◌, ◌≤◌, ◌+◌, ◌*◌, ◌^◌, ◌↔◌, ℕ, List, length, Any, slice_index, Contains}
 use Rattle.std.specs.List.Sorted.{IsPartitionPoint}
 use Rattle.cell_net.specs.Space.{Pairs}
 use Rattle.cell_net.specs.declared.cells.End.{End}

@@ -1,5 +1,5 @@
 -- Plans: which are lawful under a layout, which layouts are feasible, and which are least.
-use Rattle.std.specs.Prelude.{◌≡◌, ◌≤◌, ◌+◌, ℕ, List, length, AllPairs, Contains}
+use Rattle.std.specs.Prelude.{◌≤◌, ℕ, List, length, AllPairs, Contains}
 use Rattle.std.specs.List.{AllZip}
 use Rattle.cell_net.specs.Borders.{IsLayout, Linked}
 use Rattle.cell_net.specs.Runs.{IsRun, IsSweepAt}

@@ -1,5 +1,5 @@
 -- Which rule a refusal says is broken: the first in the order, at the lowest place.
-use Rattle.std.specs.Prelude.{ℕ, List, ⊤}
+use Rattle.std.specs.Prelude.{List, ⊤}
 use Rattle.vss_lists.specs.Breaks.{HoldsOfEach, BreaksFirstAt}
 use Rattle.cell_net.specs.Rules.{HasGoodSteps, IsGoodCell, IsGoodJoin, IsGoodCandidate, IsGoodKept, IsGoodStation, IsGoodTrain}
 use Rattle.cell_net.specs.Sections.{HasGoodSections, IsFirstBadSection}

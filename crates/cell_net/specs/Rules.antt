@@ -1,6 +1,6 @@
 -- The rules that the parts of an instance keep.
 use Rattle.std.specs.Prelude.{◌≡◌, ◌≢◌, ◌<◌, ◌≤◌, ◌+◌, ◌^◌, ◌⊎◌, ℕ, List, length, All, Some, slice_get}
-use Rattle.vss_lists.specs.Breaks.{HoldsOfEach, BreaksFirstAt}
+use Rattle.vss_lists.specs.Breaks.{HoldsOfEach}
 use Rattle.cell_net.specs.Space.{IsCell}
 use Rattle.cell_net.specs.Borders.{IsAboveLast, IsCellAt, IsInSection, RisesAt}
 use Rattle.cell_net.specs.Sections.{HasGoodSections}

@@ -1,5 +1,5 @@
 -- Space: cells, the ends that meet at a node, and the paths that a train can take.
-use Rattle.std.specs.Prelude.{◌≡◌, ◌≢◌, ◌<◌, ◌⊎◌, ℕ, List, length, All, AllPairs, Any, Some, slice_get}
+use Rattle.std.specs.Prelude.{◌≡◌, ◌≢◌, ◌<◌, ◌⊎◌, List, length, All, AllPairs, Any}
 use Rattle.std.specs.List.{AllAdjacentBelow}
 use Rattle.cell_net.specs.declared.ids.CellId.{CellId}
 use Rattle.cell_net.specs.declared.cells.End.{End}

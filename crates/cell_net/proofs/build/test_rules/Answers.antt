@@ -1,4 +1,4 @@
-use Rattle.std.proofs.Common.{rules, arith}
+use Rattle.std.proofs.Common.{rules}
 use Rattle.cell_net.proofs.RuleLemmas.{few_candidates, few_cells, few_trains}
 use Rattle.cell_net.proofs.build.test_rules.Goals as goal
 

@@ -1,7 +1,7 @@
-use Rattle.std.proofs.Common.{◌≡◌, ◌<◌, Some, ap, arith, get_or, length, slice_get}
+use Rattle.std.proofs.Common.{◌≡◌, ◌<◌, ap, arith, get_or, length}
 use Rattle.std.proofs.lemmas.Option.{slice_get-get_or}
 use Rattle.cell_net.specs.declared.cells.CellSpec.{CellSpec}
-use Rattle.cell_net.proofs.EndLemmas.{ends_all, ends_none, ends_push}
+use Rattle.cell_net.proofs.EndLemmas.{ends_all, ends_push}
 use Rattle.cell_net.proofs.ends.ends_by_cell.Goals as goal
 
 -- what a read past the end would give

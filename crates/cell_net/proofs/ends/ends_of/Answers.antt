@@ -1,4 +1,3 @@
-use Rattle.std.proofs.lemmas.List.Sorted.{Contains-permutation, IsPermutation-sym}
 use Rattle.cell_net.proofs.EndLemmas.{ends_permuted}
 use Rattle.cell_net.proofs.ends.ends_of.Goals as goal
 

@@ -1,4 +1,3 @@
-use Rattle.std.proofs.Common.{◌≡◌, false, true}
 use Rattle.std.proofs.lemmas.Bool.{eq-eqb, eqb-true}
 use Rattle.cell_net.proofs.LayoutLemmas.{contains_at, stands_at}
 use Rattle.cell_net.proofs.layout.contains.Goals as goal

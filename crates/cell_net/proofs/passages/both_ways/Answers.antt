@@ -1,4 +1,4 @@
-use Rattle.std.proofs.Common.{arith, take, length, ◌≡◌, ◌≤◌}
+use Rattle.std.proofs.Common.{arith, take, ◌≡◌}
 use Rattle.std.proofs.lemmas.List.{take_more, take_all}
 use Rattle.cell_net.specs.declared.cells.End.TheVariants.{Low}
 use Rattle.cell_net.specs.declared.cells.CellEnd.{CellEnd}

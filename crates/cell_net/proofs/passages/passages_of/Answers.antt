@@ -1,5 +1,3 @@
-use Rattle.std.proofs.Common.{◌↔◌}
-use Rattle.std.proofs.lemmas.List.Sorted.{Contains-permutation, IsPermutation-sym}
 use Rattle.cell_net.proofs.PassageLemmas.{passages_permuted}
 use Rattle.cell_net.proofs.passages.passages_of.Goals as goal
 

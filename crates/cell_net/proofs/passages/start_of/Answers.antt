@@ -1,4 +1,4 @@
-use Rattle.std.proofs.Common.{rules, ltb, arith}
+use Rattle.std.proofs.Common.{rules, ltb}
 use Rattle.std.proofs.lemmas.List.Sorted.{IsPartitionPoint-from_clause, IsPartitionedBy-ltb}
 use Rattle.cell_net.specs.declared.passages.Passage.{Passage}
 use Rattle.cell_net.proofs.PassageLemmas.{splits_from_tests}
