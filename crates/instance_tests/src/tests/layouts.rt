@@ -1,7 +1,5 @@
 //! Which borders are refused.
 
-ghost use Rattle.std.specs.Prelude.{◌<◌, ◌^◌, length};
-
 use super::changes::Change::{Candidates, Cells, Kept};
 use super::changes::{Change, NO_CELLS, build};
 use cell_net::LayoutRefusal::{NotRising, OutOfRange};
