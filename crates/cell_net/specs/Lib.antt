@@ -2,6 +2,7 @@ pub mod Space
 pub mod Borders
 pub mod Runs
 pub mod Plans
+pub mod Names
 pub mod Labelled
 pub mod Rules
 pub mod Refusals

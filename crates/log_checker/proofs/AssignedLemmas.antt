@@ -8,7 +8,7 @@ use Rattle.std.proofs.Math.Bool.{or-false, or-true}
 use Rattle.sat_core.specs.declared.literal.Lit.{Lit}
 use Rattle.sat_core.specs.Clauses.{IsOver}
 use Rattle.sat_core.specs.Hints.{is_same, is_known}
-use Rattle.sat_core.specs.LiteralLaws.{is_same-true, is_same-refl, is_known-push}
+use Rattle.sat_core.proofs.LiteralLaws.{is_same-true, is_same-refl, is_known-push}
 use Rattle.log_checker.specs.Assigned.{mark_place, AreMarked}
 
 both_signs : (b c : Bool) (v w : ℕ) → 1 ≤ v → 1 ≤ w → 2 * (v - 1) + cond b 1 0 ≡ 2 * (w - 1) + cond c 1 0 → (v ≡ w) × (b ≡ c)

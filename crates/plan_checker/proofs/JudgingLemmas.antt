@@ -19,7 +19,10 @@ use Rattle.plan_checker.specs.Clashes.{AreApartAt, IsFirstClash}
 use Rattle.layout_rules.specs.declared.sweeps.SweepFault.TheVariants as SweepFaults
 use Rattle.plan_checker.specs.RunFaults.{FitsAt, IsRunFault}
 use Rattle.plan_checker.specs.declared.runs.RunFault.TheVariants as RunFaults
-use Rattle.plan_checker.specs.Verdicts.{FailsFirst, HaveRuns, HaveRunsBelow, HoldsKept, IsFirstBreach, IsHeld, breach_of_fault}
+use Rattle.plan_checker.specs.Verdicts.{FailsFirst, HaveRuns, HaveRunsBelow, HoldsKept, IsFirstBreach, IsHeld, IsVerdict, breach_of_fault}
+use Rattle.plan_checker.specs.declared.judging.Breach.{Breach}
+use Rattle.plan_checker.specs.declared.judging.Breach.TheVariants as Breaches
+use Rattle.plan_checker.specs.declared.judging.Verdict.TheVariants as Verdicts
 use Rattle.plan_checker.specs.declared.runs.RunFault.{RunFault}
 
 -- one train more has its run
@@ -132,3 +135,11 @@ is_first_breach p borders plan t (RunFaults.NoSweep step SweepFaults.Speed) kept
 is_first_breach p borders plan t (RunFaults.Join step) kept fails = (kept, fails)
 is_first_breach p borders plan t (RunFaults.Late step) kept fails = (kept, fails)
 is_first_breach p borders plan t (RunFaults.Stop place) kept fails = (kept, fails)
+
+-- the breach of the first clash is the verdict
+pub is_clash_verdict : (p : InstanceParts) (borders : List CandidateId) (plan : Plan) (breach : Breach) (a b : TrainId) (step : ℕ) (e f : CellId)
+    → breach ≡ Breaches.Apart a b step e f → HoldsKept p borders → HaveRuns p plan.runs → IsFirstClash p borders plan.runs a.0 b.0 step e f
+    → IsVerdict p borders plan (Verdicts.Breach breach)
+is_clash_verdict p borders plan breach a b step e f is kept runs clash =
+    subst (λ (told : Breach). IsVerdict p borders plan (Verdicts.Breach told)) (sym is)
+    ((kept, runs, clash), clashes p borders plan a.0 b.0 step e f clash)

@@ -1,3 +1,4 @@
+pub mod LiteralLaws
 pub mod LiteralLemmas
 pub mod SoundnessLemmas
 pub mod StorageLemmas

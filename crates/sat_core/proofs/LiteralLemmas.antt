@@ -5,7 +5,7 @@ use Rattle.std.proofs.lemmas.List.Elements.{All-head, All-tail}
 use Rattle.sat_core.specs.declared.literal.Lit.{Lit}
 use Rattle.sat_core.specs.Clauses.{negated, IsTrueIn}
 use Rattle.sat_core.specs.Hints.{is_same, is_known}
-use Rattle.sat_core.specs.LiteralLaws.{is_same-true}
+use Rattle.sat_core.proofs.LiteralLaws.{is_same-true}
 
 not_self : (b : Bool) → b ≡ not b → ⊥
 not_self true same = cc

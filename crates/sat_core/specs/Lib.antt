@@ -1,5 +1,4 @@
 pub mod Clauses
 pub mod Derivation
 pub mod Hints
-pub mod LiteralLaws
 pub mod Storage

@@ -43,7 +43,7 @@ impl LineBuf {
         ensures front { PutsFront (K.written out.old) (K.written out.new) (self.old ++ bytes.now) }
         ensures added { OnOk result (PutsAllBut (K.written out.old) (K.written out.new) self.new (self.old ++ bytes.now)) }
         ensures dropped { OnErr result (self.new ≡ []) }
-        ensures kept { OnOk result (length self.new ≡ (length self.old + length bytes.now) % PIECE) }
+        ensures kept { OnOk result (length self.new ≡ (length self.old + length bytes.now) % 4096) }
         ensures never_falls { K.faults out.old ≤ K.faults out.new }
         ensures cause { OnErr result (Rose (K.faults out.old) (K.faults out.new)) }
     {

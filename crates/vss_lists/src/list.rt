@@ -38,14 +38,6 @@ impl<T> Items<T> {
         Items { items }
     }
 
-    /// Hands the items out as a vector, without memory.
-    pub fn into_vec(self) -> Vec<T>
-        ensures { result.items ≡ self }
-    {
-        let Items { items } = self;
-        items
-    }
-
     pub fn as_slice(&self) -> &[T]
         ensures { result.now ≡ self.now }
     {
@@ -81,17 +73,6 @@ impl<T: Drop> Items<T> {
     {
         self.items.push(item)?;
         Ok(())
-    }
-}
-
-impl<T: Clone> Clone for Items<T> {
-    ghost use Rattle.std.specs.List.{AllZip};
-
-    ghost is_clone = { λ one other. AllZip T.is_clone one other };
-
-    fn clone(&self) -> Result<Items<T>, AllocError> {
-        let items = self.items.clone()?;
-        Ok(Items { items })
     }
 }
 

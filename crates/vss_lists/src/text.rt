@@ -1,6 +1,5 @@
 ghost use Rattle.std.specs.Prelude.{◌≡◌, string_bytes};
 
-use std::alloc::AllocError;
 use std::marker::Model;
 
 /// A `String` that contracts see as the list of its bytes.
@@ -35,16 +34,5 @@ impl Text {
         ensures { result.now ≡ self.now }
     {
         self.text.as_bytes()
-    }
-}
-
-impl Clone for Text {
-    ghost use Rattle.std.specs.Prelude.{◌≡◌};
-
-    ghost is_clone = { λ one other. other ≡ one };
-
-    fn clone(&self) -> Result<Text, AllocError> {
-        let text = self.text.clone()?;
-        Ok(Text { text })
     }
 }

@@ -1,9 +1,15 @@
 pub mod Design
 pub mod FourItems
+pub mod LabelLemmas
+pub mod LineCells
+pub mod LineInstance
+pub mod LineSection
+pub mod LineTrains
 pub mod MemberLemmas
 pub mod NameLemmas
 pub mod NetworkLemmas
 pub mod Numbers
+pub mod OneScene
 pub mod Options
 pub mod Pieces
 pub mod Places

@@ -1,50 +1,29 @@
 -- The parts and the labels of a scene fit each other, and are few.
-use Rattle.std.proofs.Common.{◌≡◌, ℕ, zero, suc, ◌+◌, ◌^◌, ◌<◌, ◌≤◌, List, [], ◌∷◌, length, map, slice_index_or, get_or, All, refl, sym, ◌∙◌, arith, subst}
-use Rattle.std.specs.List.{AllZip, range_with_len}
-use Rattle.std.proofs.lemmas.List.FromFn.{length-map-range_with_len, get_or-map-range_with_len}
-use Rattle.cell_net.specs.Labelled.{AreLabelsOf, IsOnTrack}
+use Rattle.std.proofs.Common.{◌≡◌, ℕ, zero, suc, ◌^◌, ◌<◌, ◌≤◌, List, [], ◌∷◌, length, slice_index_or, refl, sym, ◌∙◌, arith, subst}
+use Rattle.std.specs.List.{AllZip}
+use Rattle.std.proofs.lemmas.List.FromFn.{length-map-range_with_len}
+use Rattle.cell_net.specs.Labelled.{AreLabelsOf}
+use Rattle.cell_net.specs.Names.{IsName}
 use Rattle.cell_net.specs.declared.trains.TrainSpec.{TrainSpec}
-use Rattle.cell_net.specs.declared.labels.CellLabel.{CellLabel}
 use Rattle.cell_net.specs.declared.labels.Labels.{Labels}
 use Rattle.cell_net.specs.declared.parts.InstanceParts.{InstanceParts}
 use Rattle.serde_json.specs.Data.{Data}
+use Rattle.vssplan.proofs.LabelLemmas.{labelled_line, zip_second}
 use Rattle.vssplan.proofs.NetworkLemmas.{same_network}
 use Rattle.cell_net.specs.Rules.{HasFewStops}
-use Rattle.vssplan.specs.Network.{IsLineNetwork}
+use Rattle.vssplan.specs.Members.{IsNamed}
+use Rattle.vssplan.specs.Network.{IsLineNetwork, IsOfDocument}
 use Rattle.vssplan.specs.Trains.{IsTrain}
 use Rattle.vssplan.specs.Grid.{cell_count, cut_count}
-use Rattle.vssplan.specs.Scene.{IsScene, IsTimetableScene, parts_of, labels_of, cell_label, cut_label}
+use Rattle.vssplan.specs.Scene.{IsScene, IsTimetableScene, parts_of}
 use Rattle.vssplan.specs.declared.documents.network.LineNetwork.{LineNetwork}
 use Rattle.vssplan.specs.declared.documents.grid.Grid.{Grid}
 
-zip_length : {X Y : Type 0} (R : X → Y → Type 0) (xs : List X) (ys : List Y) → AllZip R xs ys → length ys ≡ length xs
+pub zip_length : {X Y : Type 0} (R : X → Y → Type 0) (xs : List X) (ys : List Y) → AllZip R xs ys → length ys ≡ length xs
 zip_length R [] [] all = refl
 zip_length R [] (y ∷ ys) all = absurd all
 zip_length R (x ∷ xs) [] all = absurd all
 zip_length R (x ∷ xs) (y ∷ ys) all = let more : length ys ≡ length xs = zip_length R xs ys all.1 in omega arith
-
--- what holds of each item that a list has for the numbers below a count
-row_all : {X : Type 0} (P : X → Type 0) (f : ℕ → X) (n : ℕ) → ((k : ℕ) → P (f k)) → All P (map f (range_with_len 0 n))
-row_all P f n each k d within =
-    let long : length (map f (range_with_len 0 n)) ≡ n = length-map-range_with_len f 0 n in
-    let at : get_or (map f (range_with_len 0 n)) k d ≡ f k = get_or-map-range_with_len f 0 n k k d (omega arith) (omega arith) in
-    subst P (sym at) (each k)
-
-on_track : (g : Grid) (k : ℕ) → IsOnTrack 1 (cut_label g k)
-on_track g k track at is = let zero : 0 ≡ track = cc in omega arith
-
-label_at : (k : ℕ) → (cell_label k).track < 1
-label_at k = omega arith
-
-labelled_line : (n : LineNetwork) (g : Grid) (trains : List TrainSpec) (names : List (List ℕ)) → length names ≡ length trains
-    → AreLabelsOf (parts_of n g trains) (labels_of n g names)
-labelled_line n g trains names same = record {
-  cells = length-map-range_with_len cell_label 0 (cell_count n g) ∙ sym (length-map-range_with_len _ 0 (cell_count n g));
-  places = length-map-range_with_len (cut_label g) 0 (cut_count n g) ∙ sym (length-map-range_with_len _ 0 (cut_count n g));
-  trains = same;
-  cell_tracks = row_all (λ (c : CellLabel). c.track < 1) cell_label (cell_count n g) label_at;
-  place_tracks = row_all (IsOnTrack 1) (cut_label g) (cut_count n g) (on_track g);
-}
 
 as_many : (n : LineNetwork) (bytes : List ℕ) (p : InstanceParts) (l : Labels) (h : IsTimetableScene n bytes p l) → length h.timetable.names ≡ length h.timetable.trains
 as_many n bytes p l h =
@@ -52,10 +31,13 @@ as_many n bytes p l h =
     zip_length _ t.items h.timetable.names t.named ∙ sym (zip_length _ t.items h.timetable.trains t.each)
 
 -- the labels of a scene are those of its instance
-pub labelled : (n : LineNetwork) (bytes : List ℕ) (p : InstanceParts) (l : Labels) → IsTimetableScene n bytes p l → AreLabelsOf p l
-labelled n bytes p l h =
+pub labelled : (n : LineNetwork) (bytes : List ℕ) (p : InstanceParts) (l : Labels) → IsOfDocument n → IsTimetableScene n bytes p l → AreLabelsOf p l
+labelled n bytes p l of_document h =
+    let t = h.is_timetable.is_timetable in
     rw (h.is_instance, h.is_named)
-    (labelled_line n h.timetable.grid h.timetable.trains h.timetable.names (as_many n bytes p l h))
+    (labelled_line n h.timetable.grid h.timetable.trains h.timetable.names (as_many n bytes p l h)
+    of_document.is_network.is_network.one_track.named.is_name t.grid.space_step_m.at_least
+    (zip_second IsNamed IsName (λ d name named. named.is_name) t.trains.items h.timetable.names t.trains.named) t.trains.different)
 
 -- the lists of a scene's instance are short
 pub record IsShort (p : InstanceParts) : Type 0 where

@@ -12,7 +12,7 @@ use Rattle.cell_net.specs.declared.trains.TrainSpec.{TrainSpec}
 use Rattle.vssplan.specs.declared.documents.timetable.LineTimetable.{LineTimetable}
 use Rattle.vssplan.proofs.MemberLemmas.{same_json, same_name, same_number}
 
-same_names : (items : List Data) (names others : List (List ℕ)) → AllZip IsNamed items names → AllZip IsNamed items others → names ≡ others
+pub same_names : (items : List Data) (names others : List (List ℕ)) → AllZip IsNamed items names → AllZip IsNamed items others → names ≡ others
 same_names [] [] [] one other = refl
 same_names [] [] (b ∷ bs) one other = absurd other
 same_names [] (a ∷ more) others one other = absurd one
@@ -37,7 +37,7 @@ pub no_trains : (n : LineNetwork) (d : Data) (g h : Grid) → HasGrid d g → Ha
     → (names : List (List ℕ)) (trains : List TrainSpec) → ¬ HasTrains n h d names trains
 no_trains n d g h one other none = subst (λ k. (names : List (List ℕ)) (trains : List TrainSpec) → ¬ HasTrains n k d names trains) (same_grid d g h one other) none
 
-same_items : (d : Data) (xs ys : List Data) → list_at (codes "trains") d ≡ Some xs → list_at (codes "trains") d ≡ Some ys → xs ≡ ys
+pub same_items : (d : Data) (xs ys : List Data) → list_at (codes "trains") d ≡ Some xs → list_at (codes "trains") d ≡ Some ys → xs ≡ ys
 same_items d xs ys one other = cc
 
 -- where two of the names are the same, there are no such trains

@@ -13,7 +13,7 @@ missing : (d : Data) (name : List ℕ) (low high n : ℕ) → Lacks name d → H
 unfolding Lacks number_at
 missing d name low high n none some = let says = rw none at some.says in cc
 
-same_option : (d : Data) (name : List ℕ) (high : ℕ) (m n : Option ℕ) → MayHaveNumber d name high m → MayHaveNumber d name high n → m ≡ n
+pub same_option : (d : Data) (name : List ℕ) (high : ℕ) (m n : Option ℕ) → MayHaveNumber d name high m → MayHaveNumber d name high n → m ≡ n
 same_option d name high None None one other = refl
 same_option d name high None (Some n) one other = absurd (missing d name 0 high n one other)
 same_option d name high (Some m) None one other = absurd (missing d name 0 high m other one)

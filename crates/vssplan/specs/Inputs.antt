@@ -1,4 +1,4 @@
--- The three files of a task, and the statuses of answers.
+-- The three files of a task, and the statuses of answers with their numbers.
 use Rattle.std.specs.Prelude.{ℕ, List}
 use Rattle.vssplan.specs.Words.{FileNames}
 use Rattle.vssplan.specs.declared.answer.Input.{Input}
@@ -27,3 +27,16 @@ status_of (answer.ReadFault input) = status.ReadFault
 status_of (answer.Refused input refusal) = status.Refused
 status_of (answer.Lawful borders) = status.Done
 status_of (answer.Breach breach labels) = status.Breach
+
+-- the exit status of the program
+abbrev pub exit_status : Status → ℕ
+exit_status status.Done = 0
+exit_status status.Impossible = 1
+exit_status status.Words = 2
+exit_status status.Refused = 3
+exit_status status.ReadFault = 4
+exit_status status.WriteFault = 5
+exit_status status.Spent = 6
+exit_status status.Memory = 7
+exit_status status.Breach = 8
+exit_status status.NotProved = 9

@@ -3,7 +3,6 @@ pub mod Grid
 pub mod Inputs
 pub mod Lines
 pub mod Members
-pub mod Names
 pub mod Network
 pub mod PlaceNames
 pub mod PrintedNames

@@ -3,7 +3,7 @@ use Rattle.std.specs.Prelude.{◌≡◌, ℕ, ◌≤◌, List, [], ◌∷◌, Op
 use Rattle.serde_json.specs.Data.{Data, Items, no_items, item}
 use Rattle.serde_json.specs.Read.{read}
 use Rattle.serde_json.specs.Find.{get, as_str, as_number, as_u64, as_array}
-use Rattle.vssplan.specs.Names.{IsName}
+use Rattle.cell_net.specs.Names.{IsName}
 
 -- the bytes are the text of this JSON value
 pub record IsJson (bytes : List ℕ) (d : Data) : Type 0 where

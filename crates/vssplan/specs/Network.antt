@@ -65,3 +65,8 @@ pub record IsLineNetwork (bytes : List ℕ) (n : LineNetwork) : Type 0 where
   pub value : Data
   pub is_json : IsJson bytes value
   pub is_network : IsNetwork value n
+
+-- the network is that of a document
+pub record IsOfDocument (n : LineNetwork) : Type 0 where
+  pub bytes : List ℕ
+  pub is_network : IsLineNetwork bytes n

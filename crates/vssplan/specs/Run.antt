@@ -56,13 +56,14 @@ pub record HasNetwork (files : Files) (names : FileNames) (network : LineNetwork
   pub is_read : IsRead files names Network bytes
   pub is_network : IsLineNetwork bytes network
 
--- the files of both documents are accepted: this is their scene
+-- the files of both documents are accepted: this is their scene, and they have no other
 pub record HasScene (files : Files) (names : FileNames) (parts : InstanceParts) (labels : Labels) : Type 0 where
   pub network : List ℕ
   pub timetable : List ℕ
   pub network_read : IsRead files names Network network
   pub timetable_read : IsRead files names Timetable timetable
   pub is_scene : IsScene network timetable parts labels
+  pub only : (others : InstanceParts) (named : Labels) → IsScene network timetable others named → (others ≡ parts) × (named ≡ labels)
 
 -- the files before this one are accepted
 abbrev pub IsReached : Files → FileNames → Input → Type 0

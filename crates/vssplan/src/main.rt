@@ -21,12 +21,12 @@ use std::process::ExitCode;
 
 fn main(rt: HostRuntime) -> ExitCode {
     let Ok(words) = words_of(&rt) else {
-        return ExitCode::from(Status::Memory as u8);
+        return ExitCode::from(Status::Memory.number());
     };
     let mut shelf = FileShelf::new(&rt, rt.alloc());
     let mut out = StdSink::new(&rt);
     let status = run::run(rt.alloc(), words.as_slice(), &mut shelf, &mut out);
-    ExitCode::from(status as u8)
+    ExitCode::from(status.number())
 }
 
 /// The words behind the program's name; none where one of them isn't text, since that asks for no task.

@@ -1,4 +1,7 @@
-/// How a run ended. The number is the exit status of the program.
+ghost use Rattle.std.specs.Prelude.{◌≡◌};
+ghost use Rattle.vssplan.specs.Inputs.{exit_status};
+
+/// How a run ended.
 #[derive(Clone, Copy, Debug, PartialEq, Eq)]
 pub enum Status {
     /// The question is answered: a design, `lawful`, `proved`, made texts or a summary.
@@ -21,4 +24,13 @@ pub enum Status {
     Breach,
     /// The log doesn't refute the formula.
     NotProved,
+}
+
+impl Status {
+    /// The exit status of the program.
+    pub fn number(self) -> u8
+        ensures { result ≡ exit_status self }
+    {
+        self as u8
+    }
 }

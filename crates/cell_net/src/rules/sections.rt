@@ -19,5 +19,6 @@ pub(crate) fn first_bad_section(
     ensures { IfOk result (λ first. MatchOption first (HasGoodSections parts.now) (IsFirstBadSection parts.now)) }
 {
     let segments = segments_of(alloc, parts)?;
-    first_bad_part(alloc, &segments)
+    let section = first_bad_part(alloc, &segments)?;
+    Ok(section)
 }

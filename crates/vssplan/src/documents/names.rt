@@ -1,5 +1,5 @@
 ghost use Rattle.std.specs.Prelude.{◌≡◌, ◌↔◌, IsTrue};
-ghost use Rattle.vssplan.specs.Names.{IsName, is_name_byte as is_plain_byte};
+ghost use Rattle.cell_net.specs.Names.{IsName, is_name_byte as is_plain_byte};
 
 const LONGEST_NAME: usize = 32;
 

@@ -1,8 +1,8 @@
-ghost use Rattle.std.specs.Prelude.{◌≡◌, ◌⊎◌, ◌<◌, ◌^◌, ℕ, List, length, IfOk, IfErr, MatchOption};
+ghost use Rattle.std.specs.Prelude.{◌≡◌, ◌<◌, ◌^◌, ℕ, List, length, IfOk, MatchOption};
 ghost use Rattle.cell_net.specs.Labelled.{AreLabelsOf};
-ghost use Rattle.cell_net.specs.Refusals.{IsRefusal};
+ghost use Rattle.cell_net.specs.Rules.{IsInstance};
 ghost use Rattle.vssplan.specs.Grid.{IsGrid, IsCoarse};
-ghost use Rattle.vssplan.specs.Network.{IsLineNetwork};
+ghost use Rattle.vssplan.specs.Network.{IsLineNetwork, IsOfDocument};
 ghost use Rattle.vssplan.specs.Timetable.{IsLineTimetable};
 ghost use Rattle.vssplan.specs.Scene.{IsScene, IsTimetableScene, parts_of, labels_of};
 
@@ -10,7 +10,7 @@ use super::labels::line_labels;
 use super::network::LineNetwork;
 use super::parts::line_parts;
 use super::timetable::{LineTimetable, line_timetable};
-use cell_net::{BuildRefusal, Instance, InstanceParts, Labels, Scene};
+use cell_net::{BuildRefusal, Instance, InstanceParts, Labels, Scene, refusals_are_exclusive};
 use std::alloc::{AllocError, Global};
 
 fn parts_and_labels(
@@ -49,26 +49,37 @@ fn line_scene(
     }
 }
 
+/// The parts of every scene keep every rule of an instance. A call does nothing; it gives its
+/// caller's proof this law.
+pub fn scenes_are_instances()
+    ensures { (n : LineNetwork) (bytes : List ℕ) (p : InstanceParts) (l : Labels)
+        → IsOfDocument n → IsTimetableScene n bytes p l → IsInstance p }
+{}
+
 /// The scene of the network and of the bytes of a timetable document, where that is a timetable of
 /// trains without stops on the network. Linear in the bytes.
 pub fn scene_of(
     alloc: Global,
     network: LineNetwork,
     bytes: &[u8],
-) -> Result<Option<Scene>, BuildRefusal>
-    ensures scene { IfOk result (λ found. (network_bytes : List ℕ) → IsLineNetwork network_bytes network
+) -> Result<Option<Scene>, AllocError>
+    requires { IsOfDocument network }
+    ensures { IfOk result (λ found. (network_bytes : List ℕ) → IsLineNetwork network_bytes network
         → MatchOption found ((p : InstanceParts) (l : Labels) → ¬ IsScene network_bytes bytes.now p l)
         (λ s. IsScene network_bytes bytes.now s.inst s.labels)) }
-    ensures refusal { IfErr result (λ r. (r ≡ BuildRefusal.Memory)
-        ⊎ ((p : InstanceParts) × (l : Labels) × IsTimetableScene network bytes.now p l × IsRefusal p r)) }
 {
+    scenes_are_instances();
+    refusals_are_exclusive();
     let (parts, labels) = match line_scene(alloc, network, bytes) {
         Ok(Some(both)) => both,
         Ok(None) => return Ok(None),
-        Err(_) => return Err(BuildRefusal::Memory),
+        Err(_) => return Err(AllocError),
     };
     match Instance::build(alloc, parts) {
         Ok(inst) => Ok(Some(Scene { inst, labels })),
-        Err(refusal) => Err(refusal),
+        Err(refusal) => match refusal {
+            BuildRefusal::Memory => Err(AllocError),
+            _ => unreachable!(),
+        },
     }
 }

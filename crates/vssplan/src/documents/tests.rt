@@ -19,12 +19,14 @@ fn changed(alloc: Global, text: &str, old: &str, new: &str) -> Result<String, Al
 }
 
 fn scene(rt: &impl Abort, alloc: Global, network: &str, timetable: &str) -> Option<Scene> {
-    let network = line_network(alloc, network.as_bytes())
-        .ok()
-        .expect(rt, "memory");
-    let network = network.expect(rt, "a network");
-    let scene = scene_of(alloc, network, timetable.as_bytes());
-    scene.ok().expect(rt, "memory and good parts")
+    match line_network(alloc, network.as_bytes()) {
+        Ok(Some(network)) => {
+            let scene = scene_of(alloc, network, timetable.as_bytes());
+            scene.ok().expect(rt, "memory")
+        }
+        Ok(None) => panic!(rt; "no network"),
+        Err(_) => panic!(rt; "memory"),
+    }
 }
 
 #[test]

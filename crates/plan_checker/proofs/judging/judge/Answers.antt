@@ -1,4 +1,4 @@
-use Rattle.plan_checker.proofs.JudgingLemmas.{lacks_border, fails_a_run, clashes, is_first_breach, have_runs, is_lawful}
+use Rattle.plan_checker.proofs.JudgingLemmas.{lacks_border, fails_a_run, is_clash_verdict, is_first_breach, have_runs, is_lawful}
 use Rattle.plan_checker.proofs.judging.judge.Goals as goal
 
 pub returns-in-Some : goal.returns-in-Some
@@ -33,7 +33,6 @@ returns-in-Ok-Some-first_clash c =
     let kept = rw c.kept.ensures at c.in-None.ensures in
     let runs = rw (c.in-Ok-None.field-0-is, c.as_slice.ensures) at c.in-Ok-None.ensures in
     let told = rw c.in-Ok-Some-first_clash.field-0-is at c.in-Ok-Some-first_clash.ensures in
-    rw c.breach_of_clash.ensures (
-      (kept, have_runs c.args.inst.now c.args.plan.now.runs c.requires.runs runs, told),
-      clashes c.args.inst.now c.args.layout.now c.args.plan.now _ _ _ _ _ told,
-    )
+    let clash = c.in-Ok-Some-first_clash.clash in
+    is_clash_verdict c.args.inst.now c.args.layout.now c.args.plan.now c.breach_of_clash.result clash.a clash.b clash.step clash.e clash.f
+    c.breach_of_clash.ensures kept (have_runs c.args.inst.now c.args.plan.now.runs c.requires.runs runs) told

@@ -31,11 +31,11 @@ build-requires-clause-trains c =
 pub invariant_of-result : goal.invariant_of-result
 invariant_of-result c =
     let is_scene = rw c.in-Ok-Some.field-0-is at c.in-Ok-Some.ensures in
-    let fits : AreLabelsOf c.in-Ok-Some.both.0 c.in-Ok-Some.both.1 = labelled _ _ _ _ is_scene in
+    let fits : AreLabelsOf c.in-Ok-Some.both.0 c.in-Ok-Some.both.1 = labelled _ _ _ _ c.requires is_scene in
     record { labelled = rw c.in-Ok.ensures.parts fits }
 
-pub returns-in-Ok-None-clause-scene : goal.returns-in-Ok-None-clause-scene
-returns-in-Ok-None-clause-scene c = λ network_bytes is_network.
+pub returns-in-Ok-None : goal.returns-in-Ok-None
+returns-in-Ok-None c = λ network_bytes is_network.
     let none = rw c.in-Ok-None.field-0-is at c.in-Ok-None.ensures in
     no_scene network_bytes _ _ is_network none
 
@@ -43,3 +43,9 @@ pub build-requires-clause-stops : goal.build-requires-clause-stops
 build-requires-clause-stops c =
     let is_scene = rw c.in-Ok-Some.field-0-is at c.in-Ok-Some.ensures in
     few_stops _ _ _ _ is_scene
+
+pub unreachable-requires : goal.unreachable-requires
+unreachable-requires c =
+    let is_scene = rw c.in-Ok-Some.field-0-is at c.in-Ok-Some.ensures in
+    let is_instance = c.scenes_are_instances.ensures _ _ _ _ c.requires is_scene in
+    c.refusals_are_exclusive.ensures.instance _ c.in-Err-build.refusal c.in_default.not-Memory c.in-Err-build.ensures.refusal is_instance
