@@ -1,6 +1,6 @@
 //! Parts of instances as lists of changes, and what `Instance::build` answers to them.
 
-ghost use Rattle.std.specs.Prelude.{◌<◌, ◌^◌, ◌↔◌, All, IsTrue, length};
+ghost use Rattle.std.specs.Prelude.{◌<◌, ◌↔◌, All, IsTrue, length};
 
 use cell_net::{
     BuildRefusal, CandidateId, CellEnd, CellId, CellSpec, DirCell, End, Instance, InstanceParts,

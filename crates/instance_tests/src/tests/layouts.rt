@@ -1,7 +1,5 @@
 //! Which borders are refused.
 
-ghost use Rattle.std.specs.Prelude.{◌<◌, ◌^◌, length};
-
 use super::changes::Change::{Candidates, Cells, Kept};
 use super::changes::{Change, NO_CELLS, build};
 use cell_net::LayoutRefusal::{NotRising, OutOfRange};
@@ -9,8 +7,6 @@ use cell_net::{CandidateId, Instance, Layout, LayoutRefusal};
 use std::alloc::{AllocError, Global};
 use std::process::Abort;
 use std::test::Fail;
-
-const FIVE_CELLS: &[&[Change]] = &[NO_CELLS, &[Cells(5)]];
 
 /// Borders, and what is answered to them.
 type Row = (&'static [u32], Result<(), LayoutRefusal>);
@@ -34,17 +30,18 @@ fn layout_of(
     Ok(Layout::new(inst, borders))
 }
 
-/// Wants the answer of each row on five cells with these candidates and kept ones.
-fn check_rows(
-    rt: &impl Abort,
-    alloc: Global,
-    candidates: &[Change],
-    rows: &[Row],
-) -> Result<(), Fail> {
-    let inst = build(rt, alloc, FIVE_CELLS, candidates)??;
+const FIVE_CELLS: &[&[Change]] = &[NO_CELLS, &[Cells(5)]];
+
+/// Five cells in a row, with these candidates and kept ones.
+fn five_cells(rt: &impl Abort, alloc: Global, candidates: &[Change]) -> Result<Instance, Fail> {
+    Ok(build(rt, alloc, FIVE_CELLS, candidates)??)
+}
+
+/// Wants the answer of each row.
+fn check_rows(rt: &impl Abort, alloc: Global, inst: &Instance, rows: &[Row]) -> Result<(), Fail> {
     for place in 0..rows.len() {
         let (borders, want) = rows[place];
-        let found = answer(rt, alloc, &inst, borders)?;
+        let found = answer(rt, alloc, inst, borders)?;
         assert_eq!(rt; found, want, "row {place}");
     }
     Ok(())
@@ -96,7 +93,8 @@ static ROWS: [Row; 19] = [
 
 #[test]
 fn borders_rise_and_are_candidates(rt: HostRuntime) -> Result<(), Fail> {
-    check_rows(&rt, rt.alloc(), &[Candidates(4)], &ROWS)
+    let inst = five_cells(&rt, rt.alloc(), &[Candidates(4)])?;
+    check_rows(&rt, rt.alloc(), &inst, &ROWS)
 }
 
 static WITHOUT_CANDIDATES: [Row; 3] = [
@@ -107,24 +105,21 @@ static WITHOUT_CANDIDATES: [Row; 3] = [
 
 #[test]
 fn without_candidates_the_empty_list_alone_is_taken(rt: HostRuntime) -> Result<(), Fail> {
-    check_rows(&rt, rt.alloc(), &[], &WITHOUT_CANDIDATES)
+    let inst = five_cells(&rt, rt.alloc(), &[])?;
+    check_rows(&rt, rt.alloc(), &inst, &WITHOUT_CANDIDATES)
 }
 
 static WITHOUT_THE_KEPT: [Row; 2] = [(&[], Ok(())), (&[0], Ok(()))];
 
 #[test]
 fn borders_without_the_kept_one_are_taken(rt: HostRuntime) -> Result<(), Fail> {
-    check_rows(
-        &rt,
-        rt.alloc(),
-        &[Candidates(4), Kept(1)],
-        &WITHOUT_THE_KEPT,
-    )
+    let inst = five_cells(&rt, rt.alloc(), &[Candidates(4), Kept(1)])?;
+    check_rows(&rt, rt.alloc(), &inst, &WITHOUT_THE_KEPT)
 }
 
 #[test]
 fn a_layout_has_its_borders_alone(rt: HostRuntime) -> Result<(), Fail> {
-    let inst = build(&rt, rt.alloc(), FIVE_CELLS, &[Candidates(4)])??;
+    let inst = five_cells(&rt, rt.alloc(), &[Candidates(4)])?;
     let layout = layout_of(&rt, rt.alloc(), &inst, &[0, 3])??;
     for border in 0..5 {
         let want = border == 0 || border == 3;

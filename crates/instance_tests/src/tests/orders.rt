@@ -60,7 +60,7 @@ fn of_all_rules_that_are_broken_the_first_is_told(rt: HostRuntime) -> Result<(),
     Ok(())
 }
 
-static PLACES: [Row; 8] = [
+static PLACES: [Row; 10] = [
     (&[Cell(4, 5, 1, 21), Cell(4, 4, 1, 20)], Err(BadCell(4))),
     (
         &[
@@ -70,8 +70,10 @@ static PLACES: [Row; 8] = [
         ],
         Err(BadJoin(4)),
     ),
-    // the cell of the higher section stands first
+    // two sections with a ring, and one with a ring and one that falls apart; the cell of the higher one first
     (&[Cell(2, 4, 1, 20), Cell(0, 2, 0, 20)], Err(BadSection(0))),
+    (&[Cell(0, 5, 1, 20), Cell(0, 2, 0, 20)], Err(BadSection(0))),
+    (&[Cell(2, 4, 1, 20), Cell(4, 5, 0, 20)], Err(BadSection(0))),
     (&[Candidate(0), Candidate(0)], Err(BadCandidate(0))),
     (
         &[Candidate(3), Candidate(1), Candidate(4)],

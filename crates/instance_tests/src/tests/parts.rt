@@ -1,7 +1,5 @@
 //! What an instance tells of its parts.
 
-ghost use Rattle.std.specs.Prelude.{◌<◌};
-
 use super::changes::Change::{Candidate, Kept, Station, Train};
 use super::changes::TrainChange::{Stops, Times};
 use super::changes::{Change, TRACK, build};
