@@ -17,9 +17,8 @@ use Rattle.vssplan.specs.declared.report.borders.PlaceName.{PlaceName}
 use Rattle.vssplan.specs.declared.report.borders.PlaceName.TheVariants as name
 use Rattle.vssplan.proofs.EndedWords.{first_byte, name_lacks, word_same, number_same, all_first}
 use Rattle.vssplan.proofs.CellTexts.{track_lacks}
-use Rattle.vssplan.proofs.ListItems.{GoesOn, items_within}
-use Rattle.vssplan.proofs.NoCell.{no_word}
-use Rattle.vssplan.proofs.Placed.{all_at, at_place}
+use Rattle.vssplan.proofs.ListItems.{items_within}
+use Rattle.vssplan.proofs.Placed.{all_at}
 use Rattle.vssplan.proofs.PlaceTexts.{cut_parts, joint_parts, border_parts, border_same}
 
 -- the parts of the line of a cut, and what follows
