@@ -6,7 +6,7 @@ use Rattle.cell_net.specs.declared.ids.CandidateId.{CandidateId}
 use Rattle.cell_net.specs.declared.labels.PlaceLabel.{PlaceLabel}
 use Rattle.cell_net.specs.declared.labels.PlaceLabel.TheVariants.{Cut, Joint}
 use Rattle.cell_net.specs.declared.labels.Labels.{Labels}
-use Rattle.vssplan.specs.Lines.{flat, line}
+use Rattle.vss_io.specs.Line.{flat, line}
 use Rattle.vssplan.specs.PrintedNames.{track_name, place_text}
 use Rattle.vssplan.specs.Report.{HasPlaceName, IsShortPlace, border_text}
 use Rattle.vssplan.proofs.EndedWords.{first_byte, name_lacks, word_same, number_same}
