@@ -1,5 +1,5 @@
 -- The name of a track tells the track, and the text of a directed cell tells the cell.
-use Rattle.std.proofs.Common.{◌≡◌, ◌≢◌, ◌<◌, ◌^◌, ℕ, List, [], ◌∷◌, ◌++◌, Option, Some, None, false, All, length, slice_get, unwrap_or, codes, decimal, subst, refl, sym, ap, ◌∙◌, append_assoc, arith}
+use Rattle.std.proofs.Common.{◌≡◌, ◌<◌, ℕ, List, [], ◌∷◌, ◌++◌, Option, Some, false, length, slice_get, unwrap_or, decimal, subst, refl, sym, ap, ◌∙◌, append_assoc, arith}
 use Rattle.std.proofs.lemmas.List.{append-nil}
 use Rattle.cell_net.specs.Names.{IsName, is_name_byte}
 use Rattle.cell_net.specs.Labelled.{AreLabels}

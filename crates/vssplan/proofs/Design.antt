@@ -1,5 +1,5 @@
 -- The parts of a report make its text.
-use Rattle.std.proofs.Common.{◌≡◌, ℕ, List, [], ◌∷◌, ◌++◌, refl, append_assoc}
+use Rattle.std.proofs.Common.{◌≡◌, ℕ, List, [], ◌∷◌, ◌++◌, append_assoc}
 use Rattle.std.proofs.lemmas.List.{append-nil}
 
 pub report_parts : (bytes s1 s2 s3 s4 s5 s6 front number borders runs last : List ℕ)

@@ -1,5 +1,5 @@
 -- The borders of a design are a layout's.
-use Rattle.std.proofs.Common.{◌≡◌, ◌<◌, ◌+◌, ℕ, List, Some, length, get_or, slice_get, sym, ap, subst, arith}
+use Rattle.std.proofs.Common.{◌≡◌, ◌<◌, ◌+◌, ℕ, List, Some, get_or, slice_get, sym, ap, subst, arith}
 use Rattle.cell_net.specs.Borders.{RisesAt}
 use Rattle.cell_net.specs.Labelled.{AreLabelsOf}
 use Rattle.cell_net.specs.Refusals.{IsLayoutRefusal}

@@ -8,7 +8,7 @@ use Rattle.cell_net.specs.declared.ids.CandidateId.{CandidateId}
 use Rattle.cell_net.specs.declared.labels.PlaceLabel.{PlaceLabel}
 use Rattle.cell_net.specs.declared.labels.PlaceLabel.TheVariants as place
 use Rattle.cell_net.specs.declared.labels.Labels.{Labels}
-use Rattle.vssplan.specs.Lines.{line}
+use Rattle.vss_io.specs.Line.{line}
 use Rattle.vssplan.specs.Ends.{Lacks}
 use Rattle.vssplan.specs.PrintedNames.{track_name, cut_text, joint_text, place_text}
 use Rattle.vssplan.specs.PlaceNames.{name_text, IsShortName, IsPlainName, IsPlaceOf, IsFound}
@@ -17,9 +17,8 @@ use Rattle.vssplan.specs.declared.report.borders.PlaceName.{PlaceName}
 use Rattle.vssplan.specs.declared.report.borders.PlaceName.TheVariants as name
 use Rattle.vssplan.proofs.EndedWords.{first_byte, name_lacks, word_same, number_same, all_first}
 use Rattle.vssplan.proofs.CellTexts.{track_lacks}
-use Rattle.vssplan.proofs.ListItems.{GoesOn, items_within}
-use Rattle.vssplan.proofs.NoCell.{no_word}
-use Rattle.vssplan.proofs.Placed.{all_at, at_place}
+use Rattle.vssplan.proofs.ListItems.{items_within}
+use Rattle.vssplan.proofs.Placed.{all_at}
 use Rattle.vssplan.proofs.PlaceTexts.{cut_parts, joint_parts, border_parts, border_same}
 
 -- the parts of the line of a cut, and what follows

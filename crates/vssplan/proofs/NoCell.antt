@@ -1,5 +1,5 @@
 -- Where the reading of a directed cell stops, there is none.
-use Rattle.std.proofs.Common.{◌≡◌, ◌≢◌, ◌<◌, ◌^◌, ℕ, List, [], ◌∷◌, ◌++◌, length, decimal, sym, ◌∙◌, append_assoc, arith, refl, length-append}
+use Rattle.std.proofs.Common.{◌≡◌, ◌≢◌, ◌<◌, ℕ, List, ◌∷◌, ◌++◌, length, decimal, sym, ◌∙◌, arith, refl, length-append}
 use Rattle.std.proofs.lemmas.List.{get_or_at}
 use Rattle.cell_net.specs.Labelled.{AreLabels}
 use Rattle.cell_net.specs.declared.cells.DirCell.{DirCell}

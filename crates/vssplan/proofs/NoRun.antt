@@ -1,18 +1,17 @@
 -- Where the reading of runs stops, there is no further one.
-use Rattle.std.proofs.Common.{◌≡◌, ◌≢◌, ◌<◌, ◌≤◌, ◌^◌, ◌+◌, ◌-◌, ℕ, zero, suc, List, [], ◌∷◌, ◌++◌, All, length, take, drop, get_or, codes, decimal, refl, sym, ap, ◌∙◌, append_assoc, length-append, arith}
+use Rattle.std.proofs.Common.{◌≡◌, ◌≢◌, ◌<◌, ◌^◌, ◌+◌, ℕ, List, [], ◌∷◌, ◌++◌, All, length, take, drop, get_or, codes, decimal, refl, sym, ap, ◌∙◌, append_assoc, length-append, arith}
 use Rattle.std.specs.List.{flat_map}
 use Rattle.std.proofs.lemmas.List.{append-nil, append_cancel_left, drop_more}
 use Rattle.cell_net.specs.Labelled.{AreLabels}
 use Rattle.cell_net.specs.declared.labels.Labels.{Labels}
 use Rattle.cell_net.specs.declared.plans.Sweep.{Sweep}
 use Rattle.cell_net.specs.declared.plans.TrainRun.{TrainRun}
-use Rattle.vssplan.specs.Lines.{flat, line}
 use Rattle.vssplan.specs.Ends.{BeginsWithNoSweep}
 use Rattle.vssplan.specs.Report.{IsReportSweep, IsReportRun, sweep_text, start_text, run_text, runs_text}
 use Rattle.vssplan.proofs.EndedWords.{number_same, all_first}
 use Rattle.vssplan.proofs.ListItems.{items_until, all_read}
 use Rattle.vssplan.proofs.SweepTexts.{sweep_same, no_sweep}
-use Rattle.vssplan.proofs.RunTexts.{RunsGoOn, after_feed, after_train, runs_begin, runs_go_along}
+use Rattle.vssplan.proofs.RunTexts.{after_feed, after_train, runs_begin, runs_go_along}
 
 -- the parts of the line of a start, and what follows
 pub start_parts : (train : List ℕ) (start : ℕ) (rest : List ℕ)

@@ -1,5 +1,5 @@
 -- Where the reading of sweeps stops, there is no further one.
-use Rattle.std.proofs.Common.{◌≡◌, ◌≢◌, ◌<◌, ℕ, List, [], ◌∷◌, ◌++◌, All, length, codes, refl, sym, ap, ◌∙◌, append_assoc, arith}
+use Rattle.std.proofs.Common.{◌≡◌, ◌≢◌, ℕ, List, [], ◌∷◌, ◌++◌, All, length, codes, sym, ap, ◌∙◌, append_assoc, arith}
 use Rattle.std.specs.List.{flat_map}
 use Rattle.cell_net.specs.Labelled.{AreLabels}
 use Rattle.cell_net.specs.declared.cells.DirCell.{DirCell}

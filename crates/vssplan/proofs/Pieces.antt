@@ -2,7 +2,7 @@
 use Rattle.std.proofs.Common.{◌≡◌, ℕ, List, [], ◌∷◌, ◌++◌, Option, Result, OnOk, ap, subst, ◌∙◌, append_assoc, codes}
 use Rattle.std.proofs.lemmas.List.{append-nil}
 use Rattle.vss_io.specs.Written.{followed_by, PutsFront}
-use Rattle.vssplan.specs.Lines.{flat, line}
+use Rattle.vss_io.specs.Line.{flat, line}
 
 -- what was printed as one text was printed as another that is the same
 pub prints_front : {before now : Option (List ℕ)} (t u : List ℕ) → t ≡ u → PutsFront before now t → PutsFront before now u

@@ -1,13 +1,12 @@
 -- The line of a border tells its place.
-use Rattle.std.proofs.Common.{◌≡◌, ◌<◌, ℕ, List, [], ◌∷◌, ◌++◌, Option, Some, length, slice_get, codes, decimal, refl, sym, ap, ◌∙◌, append_assoc, arith}
+use Rattle.std.proofs.Common.{◌≡◌, ℕ, List, [], ◌∷◌, ◌++◌, Option, Some, length, slice_get, codes, decimal, refl, sym, ap, ◌∙◌, append_assoc, arith}
 use Rattle.std.proofs.lemmas.List.{append-nil, append_cancel_left}
-use Rattle.vss_lists.specs.Breaks.{HoldsOfEach}
 use Rattle.cell_net.specs.Labelled.{AreLabels, IsGoodPlace}
 use Rattle.cell_net.specs.declared.ids.CandidateId.{CandidateId}
 use Rattle.cell_net.specs.declared.labels.PlaceLabel.{PlaceLabel}
 use Rattle.cell_net.specs.declared.labels.PlaceLabel.TheVariants.{Cut, Joint}
 use Rattle.cell_net.specs.declared.labels.Labels.{Labels}
-use Rattle.vssplan.specs.Lines.{flat, line}
+use Rattle.vss_io.specs.Line.{flat, line}
 use Rattle.vssplan.specs.PrintedNames.{track_name, place_text}
 use Rattle.vssplan.specs.Report.{HasPlaceName, IsShortPlace, border_text}
 use Rattle.vssplan.proofs.EndedWords.{first_byte, name_lacks, word_same, number_same}

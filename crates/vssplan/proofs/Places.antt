@@ -1,5 +1,5 @@
 -- A place and its name have one text.
-use Rattle.std.proofs.Common.{◌≡◌, ℕ, List, ◌++◌, Some, refl}
+use Rattle.std.proofs.Common.{◌≡◌, Some, refl}
 use Rattle.vssplan.specs.PrintedNames.{place_text}
 use Rattle.vssplan.specs.Report.{IsShortPlace}
 use Rattle.vssplan.specs.PlaceNames.{name_text, IsShortName, IsPlaceOf}

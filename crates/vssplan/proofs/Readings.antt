@@ -1,5 +1,5 @@
 -- What a later reading of a shelf shows of it as it was before.
-use Rattle.std.proofs.Common.{◌≡◌, ◌≤◌, ◌+◌, ◌-◌, ◌^◌, ℕ, Bool, List, Option, Result, Ok, Err, IsTrue, IfOk, IfErr, Some, length, min, sym, ◌∙◌, subst, arith}
+use Rattle.std.proofs.Common.{◌≤◌, ℕ, List, Option, Result, Ok, Err, IsTrue, IfOk, IfErr, sym, ◌∙◌, subst, arith}
 use Rattle.vss_io.specs.Faults.{Rose}
 use Rattle.vss_io.specs.Shelf.{IsLongerThan}
 use Rattle.vssplan.specs.Words.{FileNames}

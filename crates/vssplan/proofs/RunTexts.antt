@@ -1,12 +1,10 @@
 -- The lines of a run tell the run, and the lines of all runs tell these.
-use Rattle.std.proofs.Common.{◌≡◌, ◌≢◌, ◌<◌, ◌≤◌, ℕ, zero, suc, List, [], ◌∷◌, ◌++◌, All, length, take, drop, codes, decimal, refl, sym, ap, subst, ◌∙◌, append_assoc, length-append, arith}
+use Rattle.std.proofs.Common.{◌≡◌, ◌<◌, ◌≤◌, ℕ, List, [], ◌∷◌, ◌++◌, All, length, take, drop, codes, decimal, refl, sym, ap, subst, ◌∙◌, append_assoc, length-append, arith}
 use Rattle.std.specs.List.{flat_map}
 use Rattle.std.proofs.lemmas.List.{append-nil, append_cancel_left, take_all, drop_all}
 use Rattle.cell_net.specs.Labelled.{AreLabels}
 use Rattle.cell_net.specs.declared.labels.Labels.{Labels}
-use Rattle.cell_net.specs.declared.plans.Sweep.{Sweep}
 use Rattle.cell_net.specs.declared.plans.TrainRun.{TrainRun}
-use Rattle.vssplan.specs.Lines.{flat, line}
 use Rattle.vssplan.specs.Ends.{BeginsWithNoSweep}
 use Rattle.vssplan.specs.Report.{IsReportSweep, IsReportRun, sweep_text, run_text, runs_text}
 use Rattle.vssplan.proofs.EndedWords.{first_byte, number_same, all_first, all_rest}

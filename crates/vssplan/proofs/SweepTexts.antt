@@ -1,5 +1,5 @@
 -- The line of a sweep tells the sweep.
-use Rattle.std.proofs.Common.{◌≡◌, ◌≢◌, ◌<◌, ℕ, List, [], ◌∷◌, ◌++◌, All, length, codes, refl, sym, ap, ◌∙◌, append_assoc, arith}
+use Rattle.std.proofs.Common.{◌≡◌, ◌≢◌, ℕ, List, [], ◌∷◌, ◌++◌, codes, sym, ◌∙◌, append_assoc, arith}
 use Rattle.std.specs.List.{flat_map}
 use Rattle.std.proofs.lemmas.List.{append_cancel_left}
 use Rattle.cell_net.specs.Labelled.{AreLabels}
@@ -10,7 +10,7 @@ use Rattle.vssplan.specs.Ends.{BeginsWithNoSweep}
 use Rattle.vssplan.specs.Report.{HasCellName, IsReportSweep, cell_text, sweep_text}
 use Rattle.vssplan.proofs.EndedWords.{first_byte}
 use Rattle.vssplan.proofs.CellTexts.{cell_same}
-use Rattle.vssplan.proofs.ListItems.{GoesOn, IsReadOnce, items_until, all_read}
+use Rattle.vssplan.proofs.ListItems.{IsReadOnce, items_until, all_read}
 
 -- a directed cell behind a blank
 abbrev pub spaced : Labels → DirCell → List ℕ

@@ -1,9 +1,9 @@
 -- A report has more bytes than each of its runs has sweeps.
-use Rattle.std.proofs.Common.{◌≡◌, ◌≤◌, ◌<◌, ◌+◌, ℕ, zero, suc, List, [], ◌∷◌, ◌++◌, length, get_or, ap, arith, length-append, codes, decimal}
+use Rattle.std.proofs.Common.{◌≡◌, ◌≤◌, ◌<◌, ℕ, zero, suc, List, [], ◌∷◌, ◌++◌, length, get_or, ap, arith, length-append, codes, decimal}
 use Rattle.std.specs.List.{flat_map}
 use Rattle.std.proofs.lemmas.List.Concat.{flat_map-cons}
-use Rattle.vssplan.specs.Lines.{flat, line}
-use Rattle.vssplan.specs.Report.{cell_text, sweep_text, run_text, runs_text, border_text, report_text, design_text, IsDesign}
+use Rattle.vss_io.specs.Line.{flat, line}
+use Rattle.vssplan.specs.Report.{cell_text, sweep_text, run_text, runs_text, border_text, report_text, IsDesign}
 use Rattle.cell_net.specs.declared.ids.CandidateId.{CandidateId}
 use Rattle.cell_net.specs.declared.labels.Labels.{Labels}
 use Rattle.cell_net.specs.declared.plans.Sweep.{Sweep}

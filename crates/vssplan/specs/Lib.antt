@@ -3,7 +3,6 @@ pub mod FileNames
 pub mod FirstCells
 pub mod Grid
 pub mod Inputs
-pub mod Lines
 pub mod Members
 pub mod Network
 pub mod PlaceNames

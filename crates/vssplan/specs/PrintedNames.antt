@@ -1,6 +1,6 @@
 -- The names for people in printed texts and reports, as bytes: of trains, cells and places of borders.
-use Rattle.std.specs.Prelude.{ℕ, List, [], ◌∷◌, ◌++◌, Option, Some, None, slice_get, unwrap_or, codes, decimal}
-use Rattle.vssplan.specs.Lines.{flat}
+use Rattle.std.specs.Prelude.{ℕ, List, [], ◌∷◌, Option, Some, None, slice_get, unwrap_or, codes, decimal}
+use Rattle.vss_io.specs.Line.{flat}
 use Rattle.cell_net.specs.declared.ids.CellId.{CellId}
 use Rattle.cell_net.specs.declared.ids.CandidateId.{CandidateId}
 use Rattle.cell_net.specs.declared.ids.TrainId.{TrainId}

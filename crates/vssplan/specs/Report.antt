@@ -1,7 +1,7 @@
 -- The text of a report with the design of a layout and a plan, and the designs that are read.
 use Rattle.std.specs.Prelude.{◌≡◌, ◌<◌, ◌^◌, ◌++◌, ℕ, List, [], ◌∷◌, Some, length, slice_get, All, codes, decimal}
 use Rattle.std.specs.List.{flat_map, AllAdjacentBelow}
-use Rattle.vssplan.specs.Lines.{flat, line}
+use Rattle.vss_io.specs.Line.{flat, line}
 use Rattle.vssplan.specs.PrintedNames.{track_name, cell_name, place_name}
 use Rattle.cell_net.specs.declared.ids.CandidateId.{CandidateId}
 use Rattle.cell_net.specs.declared.ids.CellId.{CellId}

@@ -8,7 +8,7 @@ use Rattle.vssplan.specs.declared.answer.Input.{Input}
 use Rattle.vssplan.specs.declared.answer.Input.TheVariants.{Report}
 use Rattle.vssplan.specs.declared.answer.Refusal.TheVariants.{NotYet, FileTooLong}
 use Rattle.vssplan.specs.declared.answer.Answer.{Answer as Said}
-use Rattle.vssplan.specs.declared.answer.Answer.TheVariants.{Usage, ReadFault, Refused, Lawful, Breach}
+use Rattle.vssplan.specs.declared.answer.Answer.TheVariants.{ReadFault, Refused, Lawful, Breach}
 use Rattle.vssplan.specs.declared.stop.Stop.{Stop}
 use Rattle.vssplan.specs.declared.stop.Stop.TheVariants.{Answer, Memory}
 use Rattle.vssplan.specs.Report.{IsDesign}

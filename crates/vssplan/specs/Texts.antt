@@ -1,6 +1,6 @@
 -- The lines that a run prints.
 use Rattle.std.specs.Prelude.{ℕ, List, [], ◌∷◌, ◌++◌, codes, decimal}
-use Rattle.vssplan.specs.Lines.{flat, line}
+use Rattle.vss_io.specs.Line.{flat, line}
 use Rattle.vssplan.specs.PrintedNames.{train_name, cell_name, place_name}
 use Rattle.vssplan.specs.declared.answer.Input.{Input}
 use Rattle.vssplan.specs.declared.answer.Input.TheVariants.{Network, Timetable, Report}

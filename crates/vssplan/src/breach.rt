@@ -1,7 +1,7 @@
 ghost use Rattle.std.specs.Prelude.{◌≡◌, [], ◌∷◌, ◌++◌, List, ℕ, OnOk, OnErr, Some, codes};
 ghost use Rattle.vss_io.specs.Faults.{Rose};
 ghost use Rattle.vss_io.specs.Written.{followed_by, PutsFront};
-ghost use Rattle.vssplan.specs.Lines.{flat, line};
+ghost use Rattle.vss_io.specs.Line.{flat, line};
 ghost use Rattle.vssplan.specs.PrintedNames.{cell_name, place_name, place_text};
 ghost use Rattle.vssplan.specs.Texts.{apart_text, breach_text, train_text};
 

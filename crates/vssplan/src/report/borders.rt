@@ -1,6 +1,6 @@
 ghost use Rattle.std.specs.Prelude.{◌≡◌, ◌≢◌, ◌<◌, ◌≤◌, ◌^◌, ◌++◌, ◌↔◌, ◌∷◌, [], List, ℕ, All, length, IfOk, OnErr, IsErrOf, IfSome, IfNone, IsTrue};
 ghost use Rattle.std.specs.List.{AllAdjacentBelow, flat_map};
-ghost use Rattle.vssplan.specs.Lines.{line};
+ghost use Rattle.vss_io.specs.Line.{line};
 ghost use Rattle.cell_net.specs.Labelled.{AreLabels};
 ghost use Rattle.cell_net.specs.declared.ids.CandidateId.{CandidateId};
 ghost use Rattle.vssplan.specs.Ends.{Lacks};

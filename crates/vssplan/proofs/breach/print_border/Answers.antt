@@ -1,4 +1,3 @@
-use Rattle.std.proofs.Common.{sym}
 use Rattle.vssplan.proofs.breach.print_border.Goals as goal
 
 pub returns-in-None-clause-front : goal.returns-in-None-clause-front

@@ -1,4 +1,4 @@
-use Rattle.std.proofs.Common.{◌≡◌, length, rules, arith, map, string_bytes, codes, refl}
+use Rattle.std.proofs.Common.{◌≡◌, rules, arith, string_bytes, codes, refl}
 use Rattle.vssplan.proofs.FourItems.{four_items}
 use Rattle.vssplan.proofs.words.files_of.Goals as goal
 

@@ -1,4 +1,4 @@
-use Rattle.std.proofs.Common.{◌≡◌, true, ◌++◌, ◌∷◌, All, List, ℕ, length, rules, arith, decimal, codes, sym, ◌∙◌, []}
+use Rattle.std.proofs.Common.{◌≡◌, true, ◌++◌, ◌∷◌, All, length, rules, decimal, codes, sym, ◌∙◌, []}
 use Rattle.std.specs.List.{flat_map}
 use Rattle.std.proofs.lemmas.List.{append-nil, append_cancel_left}
 use Rattle.vssplan.specs.Report.{IsDesign, IsReportRun, border_text, runs_text}

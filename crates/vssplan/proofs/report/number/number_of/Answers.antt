@@ -1,5 +1,4 @@
-use Rattle.std.proofs.Common.{◌≡◌, ◌<◌, ◌≤◌, ◌^◌, Some, ap, subst, sym, rules, arith, length, get_or, decimal}
-use Rattle.std.specs.Str.Parse.{digits_value}
+use Rattle.std.proofs.Common.{◌≡◌, Some, ap, rules, arith, length, get_or}
 use Rattle.vssplan.proofs.Numbers.{read_on-value, read_on-small, decimal-value, value-decimal, decimal-length, decimal-lead}
 use Rattle.vssplan.proofs.report.number.number_of.Goals as goal
 

@@ -1,4 +1,4 @@
-use Rattle.std.proofs.Common.{◌≡◌, ◌<◌, ◌^◌, ◌+◌, ◌*◌, ◌-◌, ◌≤◌, ◌∙◌, sym, rules, arith, get_or, drop, length, []}
+use Rattle.std.proofs.Common.{◌≡◌, ◌+◌, ◌*◌, ◌-◌, ◌∙◌, sym, arith, get_or, drop, []}
 use Rattle.std.proofs.Math.ListN.{drop_of_length-le}
 use Rattle.vssplan.proofs.Numbers.{read_on, read_on-value, read_on-step, read_on-ge, read_on-small, is_digit_at}
 use Rattle.vssplan.proofs.report.number.value_of.Goals as goal

@@ -1,4 +1,4 @@
-use Rattle.std.proofs.Common.{◌≡◌, ℕ, length, rules, arith}
+use Rattle.std.proofs.Common.{◌≡◌, length, arith}
 use Rattle.std.proofs.lemmas.Grind.{common_steps}
 use Rattle.vssplan.proofs.Options.{passed_on}
 use Rattle.vssplan.proofs.NoRun.{behind_start, no_sweeps}

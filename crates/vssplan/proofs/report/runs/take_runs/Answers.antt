@@ -1,4 +1,4 @@
-use Rattle.std.proofs.Common.{◌≡◌, ◌<◌, length, rules, arith}
+use Rattle.std.proofs.Common.{arith}
 use Rattle.std.proofs.lemmas.Grind.{common_steps}
 use Rattle.vssplan.proofs.Runs.{runs_go_on}
 use Rattle.vssplan.proofs.Options.{passed_on}

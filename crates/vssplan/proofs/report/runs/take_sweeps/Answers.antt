@@ -1,4 +1,4 @@
-use Rattle.std.proofs.Common.{◌≡◌, ◌++◌, List, ℕ, sym, ap, ◌∙◌}
+use Rattle.std.proofs.Common.{◌++◌, List, ℕ, sym, ap, ◌∙◌}
 use Rattle.std.specs.List.{flat_map}
 use Rattle.vssplan.specs.Ends.{BeginsWithNoSweep}
 use Rattle.vssplan.specs.Report.{sweep_text}

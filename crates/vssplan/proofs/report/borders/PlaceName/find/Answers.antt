@@ -1,4 +1,4 @@
-use Rattle.std.proofs.Common.{◌≡◌, ◌<◌, true, false, List, Some, length, get_or, slice_get, sym, ap, subst, ◌∙◌, arith, rules}
+use Rattle.std.proofs.Common.{◌≡◌, true, false, List, Some, length, slice_get, sym, ap, ◌∙◌, arith}
 use Rattle.cell_net.specs.declared.labels.PlaceLabel.{PlaceLabel}
 use Rattle.vssplan.specs.PlaceNames.{IsPlaceOf}
 use Rattle.vssplan.proofs.NoBorder.{not_found_more}

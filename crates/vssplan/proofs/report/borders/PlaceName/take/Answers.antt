@@ -1,4 +1,4 @@
-use Rattle.std.proofs.Common.{◌≡◌, ◌++◌, ◌∷◌, List, ℕ, Ok, codes, decimal, refl, sym, ap, ◌∙◌}
+use Rattle.std.proofs.Common.{◌≡◌, ◌++◌, ◌∷◌, Ok, decimal, refl, sym, ◌∙◌}
 use Rattle.vssplan.proofs.EndedWords.{word_same}
 use Rattle.vssplan.proofs.Options.{anyway_if_err, lost}
 use Rattle.vssplan.proofs.NoCell.{no_word}

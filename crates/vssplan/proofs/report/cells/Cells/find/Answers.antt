@@ -1,6 +1,5 @@
-use Rattle.std.proofs.Common.{◌≡◌, ◌≤◌, ◌+◌, false, not, Option, Some, None, slice_get, sym, ap, ◌∙◌, arith}
+use Rattle.std.proofs.Common.{◌≡◌, false, not, Some, None, slice_get, sym, ap, ◌∙◌, arith}
 use Rattle.std.specs.Option.{option_copied}
-use Rattle.cell_net.specs.declared.labels.CellLabel.{CellLabel}
 use Rattle.vssplan.specs.PrintedNames.{track_name}
 use Rattle.vssplan.proofs.FirstCells.{bytes_same, found_first, found_place}
 use Rattle.vssplan.proofs.Placed.{at_place}

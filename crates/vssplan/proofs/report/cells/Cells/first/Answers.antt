@@ -1,4 +1,4 @@
-use Rattle.std.proofs.Common.{◌≡◌, ℕ, List, Some, ap, subst, ◌∙◌, bytes_eq}
+use Rattle.std.proofs.Common.{◌≡◌, ℕ, List, Some, subst, ◌∙◌, bytes_eq}
 use Rattle.indexmap.specs.IndexMap.{get_by}
 use Rattle.vssplan.proofs.report.cells.Cells.first.Goals as goal
 

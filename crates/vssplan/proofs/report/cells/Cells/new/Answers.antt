@@ -1,4 +1,4 @@
-use Rattle.std.proofs.Common.{◌≡◌, ◌<◌, ◌+◌, ℕ, List, length, get_or, Some, slice_get, sym, ap, subst, ◌∙◌, arith}
+use Rattle.std.proofs.Common.{◌≡◌, ◌+◌, List, length, get_or, Some, slice_get, sym, ap, subst, ◌∙◌, arith}
 use Rattle.cell_net.specs.declared.labels.CellLabel.{CellLabel}
 use Rattle.vssplan.proofs.FirstCells.{AreFound, found_on, found_more}
 use Rattle.vssplan.proofs.Placed.{at_place, get_at}

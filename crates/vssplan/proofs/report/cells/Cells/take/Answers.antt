@@ -1,4 +1,4 @@
-use Rattle.std.proofs.Common.{◌≡◌, ◌++◌, Ok, sym, ap, ◌∙◌}
+use Rattle.std.proofs.Common.{◌≡◌, ◌++◌, Ok}
 use Rattle.vssplan.specs.Report.{sign}
 use Rattle.vssplan.proofs.CellTexts.{sign_ends}
 use Rattle.vssplan.proofs.Options.{anyway_if_err}

@@ -1,4 +1,4 @@
-use Rattle.std.proofs.Common.{◌≡◌, ◌++◌, None, Some, rules, ◌∙◌, sym}
+use Rattle.std.proofs.Common.{None, Some, ◌∙◌, sym}
 use Rattle.std.proofs.lemmas.Bool.Decides.{Decides-eqb}
 use Rattle.std.proofs.lemmas.Slice.Eq.{strip_prefix_is}
 use Rattle.vssplan.proofs.Options.{anyway_if_none}
