@@ -1,7 +1,6 @@
 -- The first cell of each track, by the track's name.
-use Rattle.std.specs.Prelude.{◌≡◌, ℕ, Some, slice_get, bytes_eq}
+use Rattle.std.specs.Prelude.{◌≡◌, ℕ, List, Some, slice_get, bytes_eq}
 use Rattle.std.specs.Borrow.{Bor}
-use Rattle.std.specs.Prelude.{List}
 use Rattle.indexmap.specs.IndexMap.{IndexMap, get_by}
 use Rattle.cell_net.specs.declared.labels.CellLabel.{CellLabel}
 use Rattle.cell_net.specs.declared.labels.Labels.{Labels}
