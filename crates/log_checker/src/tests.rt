@@ -94,86 +94,88 @@ fn verdict_on(rt: &impl Abort, alloc: Global, lines: &[Line]) -> Result<LogVerdi
     Ok(check_log(example(rt, alloc)?, &Log { steps })?)
 }
 
+// Logs, and the first step that isn't accepted with its fault.
+static FAULTS: [(&[Line], u32, StepFault); 12] = [
+    (&[Line::Add(27, &[], &[7])], 0, StepFault::IdOrder),
+    (&[Line::Add(28, &[25], &[7])], 0, StepFault::UnknownVariable),
+    (&[Line::Add(28, &[5, -5], &[7])], 0, StepFault::Twofold),
+    (&[Line::Add(28, &[], &[40])], 0, StepFault::UnknownClause),
+    (&[Line::Add(28, &[], &[28])], 0, StepFault::UnknownClause),
+    (&[Line::Add(28, &[], &[6])], 0, StepFault::HintNotUnit),
+    (&[Line::Add(28, &[], &[])], 0, StepFault::NoConflict),
+    (
+        &[Line::Add(28, &[], &[7, 7])],
+        0,
+        StepFault::HintsAfterConflict,
+    ),
+    (&[Line::Drop(&[7, 7])], 0, StepFault::UnknownClause),
+    (
+        &[Line::Drop(&[7]), Line::Add(28, &[], &[7])],
+        1,
+        StepFault::UnknownClause,
+    ),
+    (
+        &[
+            Line::Add(40, &[1], &[7]),
+            Line::Drop(&[40]),
+            Line::Add(60, &[1], &[40]),
+        ],
+        2,
+        StepFault::UnknownClause,
+    ),
+    // a literal that an earlier step made known is unassigned again
+    (
+        &[Line::Add(28, &[-1, 19], &[8]), Line::Add(29, &[19], &[8])],
+        1,
+        StepFault::NoConflict,
+    ),
+];
+
 #[test]
 fn tells_the_first_fault_of_each_log(rt: HostRuntime) -> Result<(), Fail> {
-    let bad = |index, fault| LogVerdict::Bad { index, fault };
-    let table: [(&[Line], LogVerdict); 18] = [
-        (&[], LogVerdict::NoEmptyClause),
-        (&[Line::Add(28, &[], &[7])], LogVerdict::Refutes),
-        (&[Line::Add(27, &[], &[7])], bad(0, StepFault::IdOrder)),
-        (
-            &[Line::Add(28, &[25], &[7])],
-            bad(0, StepFault::UnknownVariable),
-        ),
-        (&[Line::Add(28, &[5, -5], &[7])], bad(0, StepFault::Twofold)),
-        (
-            &[Line::Add(28, &[], &[40])],
-            bad(0, StepFault::UnknownClause),
-        ),
-        (&[Line::Add(28, &[], &[6])], bad(0, StepFault::HintNotUnit)),
-        (&[Line::Add(28, &[], &[])], bad(0, StepFault::NoConflict)),
-        (
-            &[Line::Add(28, &[], &[7, 7])],
-            bad(0, StepFault::HintsAfterConflict),
-        ),
-        (&[Line::Add(28, &[5], &[7])], LogVerdict::NoEmptyClause),
-        (
-            &[Line::Drop(&[7]), Line::Add(28, &[], &[7])],
-            bad(1, StepFault::UnknownClause),
-        ),
-        (&[Line::Drop(&[7, 7])], bad(0, StepFault::UnknownClause)),
-        (
-            &[Line::Add(28, &[], &[28])],
-            bad(0, StepFault::UnknownClause),
-        ),
-        (
-            &[Line::Add(28, &[], &[7]), Line::Add(29, &[1], &[7])],
-            LogVerdict::NoEmptyClause,
-        ),
-        // numbers with gaps, which are found by search
-        (
-            &[
-                Line::Add(40, &[1], &[7]),
-                Line::Add(60, &[-1], &[7]),
-                Line::Add(61, &[], &[40, 60]),
-            ],
-            LogVerdict::Refutes,
-        ),
-        (
-            &[
-                Line::Add(40, &[1], &[7]),
-                Line::Drop(&[40]),
-                Line::Add(60, &[1], &[40]),
-            ],
-            bad(2, StepFault::UnknownClause),
-        ),
-        // a literal that an earlier step made known is unassigned again
-        (
-            &[Line::Add(28, &[-1, 19], &[8]), Line::Add(29, &[19], &[8])],
-            bad(1, StepFault::NoConflict),
-        ),
-        // a drop that fails at its end drops nothing
-        (
-            &[Line::Drop(&[7, 40]), Line::Add(28, &[], &[7])],
-            bad(0, StepFault::UnknownClause),
-        ),
-    ];
-    for (place, (lines, verdict)) in table.iter().enumerate() {
+    for (lines, index, fault) in FAULTS {
         assert_eq!(rt;
             verdict_on(&rt, rt.alloc(), lines)?,
-            *verdict,
-            "log {place}"
+            LogVerdict::Bad { index, fault }
         );
     }
     Ok(())
 }
 
+// Logs whose steps are accepted, and whether they refute.
+static VERDICTS: [(&[Line], LogVerdict); 5] = [
+    (&[], LogVerdict::NoEmptyClause),
+    (&[Line::Add(28, &[], &[7])], LogVerdict::Refutes),
+    (&[Line::Add(28, &[5], &[7])], LogVerdict::NoEmptyClause),
+    (
+        &[Line::Add(28, &[], &[7]), Line::Add(29, &[1], &[7])],
+        LogVerdict::NoEmptyClause,
+    ),
+    // numbers with gaps, which are found by search
+    (
+        &[
+            Line::Add(40, &[1], &[7]),
+            Line::Add(60, &[-1], &[7]),
+            Line::Add(61, &[], &[40, 60]),
+        ],
+        LogVerdict::Refutes,
+    ),
+];
+
 #[test]
-fn takes_a_step_after_a_refused_one(rt: HostRuntime) -> Result<(), Fail> {
+fn refutes_by_the_empty_clause_at_the_end_alone(rt: HostRuntime) -> Result<(), Fail> {
+    for (lines, verdict) in VERDICTS {
+        assert_eq!(rt; verdict_on(&rt, rt.alloc(), lines)?, verdict);
+    }
+    Ok(())
+}
+
+#[test]
+fn a_drop_that_fails_at_its_end_drops_nothing(rt: HostRuntime) -> Result<(), Fail> {
     let mut checker = Checker::new(example(&rt, rt.alloc())?)?;
-    let refused = step_of(rt.alloc(), &Line::Drop(&[6, 7, 40]))?;
+    let refused = step_of(rt.alloc(), &Line::Drop(&[7, 40]))?;
     assert_eq!(rt; checker.take(&refused), Err(StepFault::UnknownClause));
-    let taken = step_of(rt.alloc(), &Line::Add(28, &[-19], &[7]))?;
+    let taken = step_of(rt.alloc(), &Line::Add(28, &[], &[7]))?;
     assert_eq!(rt; checker.take(&taken), Ok(()));
     Ok(())
 }

@@ -6,7 +6,7 @@ use std::process::Abort;
 use std::test::Fail;
 
 /// Each triple is a segment's low node, its high node and its part.
-type Triples<'a> = &'a [(u32, u32, u32)];
+type Triples = &'static [(u32, u32, u32)];
 
 const TOP: u32 = u32::MAX;
 
@@ -31,58 +31,33 @@ fn check_groups(
     Ok(())
 }
 
-#[test]
-fn groups_segments_by_the_open_nodes_that_they_share(rt: HostRuntime) -> Result<(), Fail> {
-    let alloc = rt.alloc();
-    check_groups(&rt, alloc, &[], &[3], &[])?;
+// Segments, barriers, and the group of each segment.
+static GROUPS: [(Triples, &[u32], &[u32]); 7] = [
+    (&[], &[3], &[]),
     // a chain, from its far end on
-    check_groups(
-        &rt,
-        alloc,
-        &[(7, 8, 0), (5, 6, 0), (6, 7, 0)],
-        &[],
-        &[0, 0, 0],
-    )?;
+    (&[(7, 8, 0), (5, 6, 0), (6, 7, 0)], &[], &[0, 0, 0]),
     // two parts share a node, and stay apart
-    check_groups(
-        &rt,
-        alloc,
-        &[(1, 2, 0), (2, 3, 1), (3, 4, 1)],
-        &[],
-        &[0, 1, 1],
-    )?;
+    (&[(1, 2, 0), (2, 3, 1), (3, 4, 1)], &[], &[0, 1, 1]),
     // a barrier, named twice, parts a chain; the other one stands elsewhere
-    check_groups(
-        &rt,
-        alloc,
-        &[(1, 2, 0), (2, 3, 0), (3, 4, 0)],
-        &[3, 9, 3],
-        &[0, 0, 2],
-    )?;
+    (&[(1, 2, 0), (2, 3, 0), (3, 4, 0)], &[3, 9, 3], &[0, 0, 2]),
     // three legs at one node
-    check_groups(
-        &rt,
-        alloc,
-        &[(1, 9, 4), (2, 9, 4), (9, 3, 4)],
-        &[],
-        &[0, 0, 0],
-    )?;
+    (&[(1, 9, 4), (2, 9, 4), (9, 3, 4)], &[], &[0, 0, 0]),
     // a ring, which one barrier does not part
-    check_groups(
-        &rt,
-        alloc,
-        &[(1, 2, 0), (2, 3, 0), (3, 1, 0)],
-        &[2],
-        &[0, 0, 0],
-    )?;
+    (&[(1, 2, 0), (2, 3, 0), (3, 1, 0)], &[2], &[0, 0, 0]),
     // the highest numbers
-    check_groups(
-        &rt,
-        alloc,
+    (
         &[(0, TOP, TOP), (5, 6, TOP), (TOP, 1, TOP)],
         &[],
         &[0, 1, 0],
-    )
+    ),
+];
+
+#[test]
+fn groups_segments_by_the_open_nodes_that_they_share(rt: HostRuntime) -> Result<(), Fail> {
+    for (triples, barriers, want) in GROUPS {
+        check_groups(&rt, rt.alloc(), triples, barriers, want)?;
+    }
+    Ok(())
 }
 
 /// Wants the lowest part that is split, the lowest that is cyclic, and the lowest that is no tree.
@@ -101,49 +76,40 @@ fn check_parts(
     Ok(())
 }
 
+// Segments, and the lowest part that is split, the lowest that is cyclic, and the lowest that is no tree.
+static PARTS: [(Triples, [Option<u32>; 3]); 7] = [
+    (&[], [None, None, None]),
+    // two parts that share a node
+    (&[(1, 2, 7), (3, 2, 7), (3, 9, 5)], [None, None, None]),
+    // three legs at one node
+    (&[(4, 8, 6), (8, 5, 6), (6, 8, 6)], [None, None, None]),
+    // what only another part joins
+    (&[(1, 2, 8), (2, 3, 4), (3, 4, 8)], [Some(8), None, Some(8)]),
+    // a ring with a branch in part 3, and a split in part 5
+    (
+        &[
+            (0, 5, 5),
+            (1, 2, 3),
+            (2, 3, 3),
+            (3, 1, 3),
+            (3, 4, 3),
+            (6, 7, 5),
+        ],
+        [Some(5), Some(3), Some(3)],
+    ),
+    // two segments between the same two nodes in part 9, and a split in part 2
+    (
+        &[(1, 2, 9), (2, 1, 9), (1, 2, 2), (3, 4, 2)],
+        [Some(2), Some(9), Some(2)],
+    ),
+    // a segment from a node to itself, with the highest numbers
+    (&[(1, 2, 0), (TOP, TOP, TOP)], [None, Some(TOP), Some(TOP)]),
+];
+
 #[test]
 fn finds_the_lowest_part_that_is_no_tree(rt: HostRuntime) -> Result<(), Fail> {
-    let alloc = rt.alloc();
-    check_parts(&rt, alloc, &[], [None, None, None])?;
-    // two parts that share a node
-    check_parts(
-        &rt,
-        alloc,
-        &[(1, 2, 7), (3, 2, 7), (3, 9, 5)],
-        [None, None, None],
-    )?;
-    // three legs at one node
-    check_parts(
-        &rt,
-        alloc,
-        &[(4, 8, 6), (8, 5, 6), (6, 8, 6)],
-        [None, None, None],
-    )?;
-    // what only another part joins
-    check_parts(
-        &rt,
-        alloc,
-        &[(1, 2, 8), (2, 3, 4), (3, 4, 8)],
-        [Some(8), None, Some(8)],
-    )?;
-    // a ring with a branch in part 3, and a split in part 5
-    let ring = [
-        (0, 5, 5),
-        (1, 2, 3),
-        (2, 3, 3),
-        (3, 1, 3),
-        (3, 4, 3),
-        (6, 7, 5),
-    ];
-    check_parts(&rt, alloc, &ring, [Some(5), Some(3), Some(3)])?;
-    // two segments between the same two nodes in part 9, and a split in part 2
-    let pair = [(1, 2, 9), (2, 1, 9), (1, 2, 2), (3, 4, 2)];
-    check_parts(&rt, alloc, &pair, [Some(2), Some(9), Some(2)])?;
-    // a segment from a node to itself, with the highest numbers
-    check_parts(
-        &rt,
-        alloc,
-        &[(1, 2, 0), (TOP, TOP, TOP)],
-        [None, Some(TOP), Some(TOP)],
-    )
+    for (triples, want) in PARTS {
+        check_parts(&rt, rt.alloc(), triples, want)?;
+    }
+    Ok(())
 }
