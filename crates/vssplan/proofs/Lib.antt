@@ -20,6 +20,7 @@ pub mod NoRun
 pub mod NoSweep
 pub mod Numbers
 pub mod OneScene
+pub mod OneAnswer
 pub mod OneDesign
 pub mod Options
 pub mod Pieces

@@ -1,7 +1,7 @@
 ghost use Rattle.std.specs.Prelude.{◌≡◌, ◌≤◌, ◌↔◌, IfOk, IfErr, List, ℕ, length, map, string_bytes};
 ghost use Rattle.vss_io.specs.Faults.{Rose};
 ghost use Rattle.vssplan.specs.FileNames.{names_in};
-ghost use Rattle.vssplan.specs.Run.{shown, Keeps, IsRead, HasNetwork, HasScene, IsRight, IsRightFor, Ends};
+ghost use Rattle.vssplan.specs.Run.{shown, Keeps, IsRead, HasNetwork, HasScene, IsRight, IsRightFor, Ends, AreDecisive};
 ghost use Rattle.vssplan.specs.Inputs.{limit as most};
 ghost use Rattle.vssplan.specs.Stops.{IsRightStop, IsUnread, IsJudged, IsReportRefused};
 
@@ -21,6 +21,8 @@ use vss_io::{Shelf, ShelfFault, Sink};
 pub fn run<H: Shelf, K: Sink>(alloc: Global, words: &[String], shelf: &mut H, out: &mut K) -> Status
     ensures ends { Ends (map string_bytes words.now) (shown (H.tells shelf.old) (H.file shelf.old) (H.faults shelf.old))
         (H.faults shelf.new) (K.written out.old) (K.written out.new) result }
+    ensures decisive { AreDecisive (map string_bytes words.now) (shown (H.tells shelf.old) (H.file shelf.old) (H.faults shelf.old))
+        (H.faults shelf.new) result }
     ensures write_fault { result ≡ Status.WriteFault → Rose (K.faults out.old) (K.faults out.new) }
 {
     let Ok(answer) = answer(alloc, words, shelf) else {
