@@ -5,4 +5,4 @@ mod LayoutLemmas
 mod SectionLemmas
 pub mod SegmentLemmas
 pub mod LinkLaws
-mod RefusalLaws
+pub mod RefusalLaws

@@ -12,11 +12,11 @@ use Rattle.cell_net.specs.declared.build.BuildRefusal.TheVariants.{BadSteps, Bad
 use Rattle.cell_net.specs.declared.parts.InstanceParts.{InstanceParts}
 
 -- a rule that is broken somewhere doesn't hold of each item
-broken : {X : Type 0} (holds : ℕ → X → Type 0) (items : List X) (i : ℕ) → BreaksFirstAt holds items i → ¬ HoldsOfEach holds items
+pub broken : {X : Type 0} (holds : ℕ → X → Type 0) (items : List X) (i : ℕ) → BreaksFirstAt holds items i → ¬ HoldsOfEach holds items
 broken holds items i first each = first.breaks (each.at_each i first.item first.is_there)
 
 -- it is first broken at one place
-one_place : {X : Type 0} (holds : ℕ → X → Type 0) (items : List X) (i j : ℕ) → BreaksFirstAt holds items i → BreaksFirstAt holds items j → i ≡ j
+pub one_place : {X : Type 0} (holds : ℕ → X → Type 0) (items : List X) (i j : ℕ) → BreaksFirstAt holds items i → BreaksFirstAt holds items j → i ≡ j
 one_place holds items i j first second = elim (cases_lt i j) [
   | inl low ↦ absurd (first.breaks (second.before i first.item low first.is_there))
   | inr high ↦ elim (cases_lt j i) [

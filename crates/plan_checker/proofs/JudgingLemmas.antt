@@ -47,7 +47,7 @@ zip_from R [] (y ∷ ys) len each = absurd (omega arith)
 zip_from R (x ∷ xs) [] len each = absurd (omega arith)
 zip_from R (x ∷ xs) (y ∷ ys) len each = (each 0 x y refl refl, zip_from R xs ys (omega arith) (λ k a b at there. each (suc k) a b at there))
 
-zip_at : {A B : Type 0} (R : A → B → Type 0) (xs : List A) (ys : List B) → AllZip R xs ys → (k : ℕ) (x : A) (y : B) → slice_get xs k ≡ Some x → slice_get ys k ≡ Some y → R x y
+pub zip_at : {A B : Type 0} (R : A → B → Type 0) (xs : List A) (ys : List B) → AllZip R xs ys → (k : ℕ) (x : A) (y : B) → slice_get xs k ≡ Some x → slice_get ys k ≡ Some y → R x y
 zip_at R [] [] zip k x y at there = absurd (cc)
 zip_at R [] (b ∷ ys) zip k x y at there = absurd zip
 zip_at R (a ∷ xs) [] zip k x y at there = absurd zip
@@ -91,7 +91,7 @@ fits_in_run p t r run k w there =
     }
 
 -- a run has no fault
-no_fault : (p : InstanceParts) (t : TrainSpec) (r : TrainRun) (fault : RunFault) → IsRunFault p t r fault → ¬ IsRun p t r
+pub no_fault : (p : InstanceParts) (t : TrainSpec) (r : TrainRun) (fault : RunFault) → IsRunFault p t r fault → ¬ IsRun p t r
 no_fault p t r RunFaults.Entry wrong run = wrong run.enters
 no_fault p t r (RunFaults.NoSweep step fault) wrong run =
     wrong.0.first.breaks (fits_in_run p t r run _ wrong.0.first.item wrong.0.first.is_there)
@@ -107,7 +107,7 @@ pub fails_a_run : (p : InstanceParts) (borders : List CandidateId) (plan : Plan)
 fails_a_run p borders plan train fault fails lawful =
     no_fault p fails.spec fails.run fault fails.is_fault (zip_at (IsRun p) p.trains plan.runs lawful.runs train fails.spec fails.run fails.is_spec fails.is_run)
 
-contains_at : {X : Type 0} (xs : List X) (k : ℕ) (x : X) → slice_get xs k ≡ Some x → Contains xs x
+pub contains_at : {X : Type 0} (xs : List X) (k : ℕ) (x : X) → slice_get xs k ≡ Some x → Contains xs x
 contains_at xs k x there = (k, slice_get_within xs k x there, get_or_from_slice_get xs k x x there)
 
 pub clashes : (p : InstanceParts) (borders : List CandidateId) (plan : Plan) (a b step : ℕ) (e f : CellId) → IsFirstClash p borders plan.runs a b step e f → ¬ IsLawful p borders plan

@@ -6,3 +6,6 @@ mod PairLemmas
 mod ClashLemmas
 mod MarkLemmas
 mod JudgingLemmas
+mod FaultLaws
+mod ClashLaws
+mod BreachLaws

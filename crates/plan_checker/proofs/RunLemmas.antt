@@ -16,7 +16,7 @@ use Rattle.plan_checker.specs.declared.sweeps.Misfit.{Misfit}
 use Rattle.plan_checker.specs.declared.sweeps.Misfit.TheVariants.{NoSweep, Join}
 
 -- what has a fault is no sweep
-fault_excludes : (p : InstanceParts) (t : TrainSpec) (cells : List DirCell) (fault : SweepFault) → IsFaultOf p t cells fault → ¬ IsSweep p t cells
+pub fault_excludes : (p : InstanceParts) (t : TrainSpec) (cells : List DirCell) (fault : SweepFault) → IsFaultOf p t cells fault → ¬ IsSweep p t cells
 fault_excludes p t cells Path is sweep = is sweep.path
 fault_excludes p t cells Length is sweep = let long = sweep.long_enough in let short = is.1 in omega arith
 fault_excludes p t cells Speed is sweep = is.2 sweep.slow_enough

@@ -3,3 +3,4 @@ pub mod ClashSearch
 pub mod RunFaults
 pub mod Stations
 pub mod Verdicts
+pub mod Laws

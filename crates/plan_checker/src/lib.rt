@@ -3,6 +3,7 @@
 
 mod clashes;
 mod judging;
+mod laws;
 mod marks;
 mod pairs;
 mod runs;
@@ -10,3 +11,4 @@ mod stops;
 mod sweeps;
 
 pub use judging::{Breach, Verdict, judge};
+pub use laws::first_breaches_are_one;
