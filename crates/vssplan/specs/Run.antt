@@ -170,20 +170,20 @@ Ends words files faults before now status.Memory = now ≡ before
 Ends words files faults before now status.WriteFault = BreaksOff words files faults before now
 Ends words files faults before now ended = Says words files faults before now ended
 
--- the task ended with this status, or a fault or want of memory came in its place
-abbrev pub IsEndedAs : Status → Status → Type 0
-IsEndedAs wanted status.ReadFault = Unit {0}
-IsEndedAs wanted status.WriteFault = Unit {0}
-IsEndedAs wanted status.Memory = Unit {0}
-IsEndedAs wanted ended = ended ≡ wanted
+-- the run printed this answer and ended with its status, or a fault or want of memory came in its place
+abbrev pub IsEndedWith : Answer → Option (List ℕ) → Option (List ℕ) → Status → Type 0
+IsEndedWith said before now status.ReadFault = Unit {0}
+IsEndedWith said before now status.WriteFault = Unit {0}
+IsEndedWith said before now status.Memory = Unit {0}
+IsEndedWith said before now ended = (now ≡ followed_by before (answer_text said)) × (ended ≡ status_of said)
 
 -- the answer is no fault of reading
 abbrev pub IsOfFiles : Answer → Type 0
 IsOfFiles (answer.ReadFault input) = ⊥
 IsOfFiles said = Unit {0}
 
--- where a shelf tells its files, the words and the files decide the status: it is that of every right
--- answer, but for faults and want of memory
-abbrev pub AreDecisive : List (List ℕ) → Files → (List ℕ → ℕ) → Status → Type 0
-AreDecisive words files faults ended =
-    IsTrue files.tells → (said : Answer) → IsOfFiles said → IsRight words files faults said → IsEndedAs (status_of said) ended
+-- where a shelf tells its files, the words and the files decide the answer: whatever answer is right, the
+-- run ended with it, but for faults and want of memory
+abbrev pub AreDecisive : List (List ℕ) → Files → (List ℕ → ℕ) → Option (List ℕ) → Option (List ℕ) → Status → Type 0
+AreDecisive words files faults before now ended =
+    IsTrue files.tells → (said : Answer) → IsOfFiles said → IsRight words files faults said → IsEndedWith said before now ended

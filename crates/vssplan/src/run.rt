@@ -12,7 +12,7 @@ use crate::status::Status;
 use crate::stop::Stop;
 use crate::words::{FileNames, files_of};
 use cell_net::{Layout, Scene};
-use plan_checker::{Verdict, judge};
+use plan_checker::{Verdict, first_breaches_are_one, judge};
 use std::alloc::{AllocError, Global};
 use vss_io::{Shelf, ShelfFault, Sink};
 
@@ -22,9 +22,10 @@ pub fn run<H: Shelf, K: Sink>(alloc: Global, words: &[String], shelf: &mut H, ou
     ensures ends { Ends (map string_bytes words.now) (shown (H.tells shelf.old) (H.file shelf.old) (H.faults shelf.old))
         (H.faults shelf.new) (K.written out.old) (K.written out.new) result }
     ensures decisive { AreDecisive (map string_bytes words.now) (shown (H.tells shelf.old) (H.file shelf.old) (H.faults shelf.old))
-        (H.faults shelf.new) result }
+        (H.faults shelf.new) (K.written out.old) (K.written out.new) result }
     ensures write_fault { result ≡ Status.WriteFault → Rose (K.faults out.old) (K.faults out.new) }
 {
+    first_breaches_are_one();
     let Ok(answer) = answer(alloc, words, shelf) else {
         return Status::Memory;
     };
