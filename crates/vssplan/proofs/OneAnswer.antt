@@ -25,6 +25,7 @@ use Rattle.vssplan.specs.declared.answer.Refusal.{Refusal}
 use Rattle.vssplan.specs.declared.answer.Refusal.TheVariants.{NotYet, FileTooLong}
 use Rattle.vssplan.specs.declared.answer.Answer.{Answer}
 use Rattle.vssplan.specs.declared.answer.Answer.TheVariants as answer
+use Rattle.vssplan.specs.declared.status.Status.{Status}
 
 -- every plan has one first breach at most
 abbrev IsLaw : Type 0
@@ -297,10 +298,15 @@ ends_with words files faults told before now law whole right printed = λ tells 
     subst (λ (a : Answer). IsEndedWith a before now (status_of told)) (one_answer words files faults told said law tells whole also right one)
     (ends_itself told before now printed)
 
-pub is_decisive : (words : List (List ℕ)) (files : Files) (faults : List ℕ → ℕ) (told : Answer) (before now : Option (List ℕ))
+decides : (words : List (List ℕ)) (files : Files) (faults : List ℕ → ℕ) (told : Answer) (before now : Option (List ℕ))
     → IsLaw → IsRight words files faults told → now ≡ followed_by before (answer_text told) → AreDecisive words files faults before now (status_of told)
-is_decisive words files faults (answer.ReadFault input) before now law right printed = λ tells said also one. tt
-is_decisive words files faults answer.Usage before now law right printed = ends_with words files faults answer.Usage before now law tt right printed
-is_decisive words files faults (answer.Refused input refusal) before now law right printed = ends_with words files faults (answer.Refused input refusal) before now law tt right printed
-is_decisive words files faults (answer.Lawful count) before now law right printed = ends_with words files faults (answer.Lawful count) before now law tt right printed
-is_decisive words files faults (answer.Breach breach labels) before now law right printed = ends_with words files faults (answer.Breach breach labels) before now law tt right printed
+decides words files faults (answer.ReadFault input) before now law right printed = λ tells said also one. tt
+decides words files faults answer.Usage before now law right printed = ends_with words files faults answer.Usage before now law tt right printed
+decides words files faults (answer.Refused input refusal) before now law right printed = ends_with words files faults (answer.Refused input refusal) before now law tt right printed
+decides words files faults (answer.Lawful count) before now law right printed = ends_with words files faults (answer.Lawful count) before now law tt right printed
+decides words files faults (answer.Breach breach labels) before now law right printed = ends_with words files faults (answer.Breach breach labels) before now law tt right printed
+
+pub is_decisive : (words : List (List ℕ)) (files : Files) (faults : List ℕ → ℕ) (told : Answer) (before now : Option (List ℕ)) (ended : Status)
+    → IsLaw → IsRight words files faults told → now ≡ followed_by before (answer_text told) → ended ≡ status_of told
+    → AreDecisive words files faults before now ended
+is_decisive words files faults told before now ended law right printed is = rw is (decides words files faults told before now law right printed)

@@ -3,5 +3,5 @@ use Rattle.vssplan.proofs.run.run.Goals as goal
 
 pub returns-in-Ok-print-clause-decisive : goal.returns-in-Ok-print-clause-decisive
 returns-in-Ok-print-clause-decisive g c =
-    rw c.status.ensures
-    (is_decisive _ _ (g.H.Shelf.faults c.answer.new.shelf) c.in-Ok.answer _ _ c.first_breaches_are_one.ensures c.in-Ok.ensures c.in-Ok-print.ensures.whole)
+    is_decisive _ _ (g.H.Shelf.faults c.answer.new.shelf) c.in-Ok.answer _ _ _
+    c.first_breaches_are_one.ensures c.in-Ok.ensures c.in-Ok-print.ensures.whole c.status.ensures
