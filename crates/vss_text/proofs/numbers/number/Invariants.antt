@@ -1,5 +1,5 @@
-use Rattle.derivation_log.proofs.NumberLemmas.{AreRead}
-use Rattle.derivation_log.proofs.number.number.Given as goal
+use Rattle.vss_text.proofs.NumberLemmas.{AreRead}
+use Rattle.vss_text.proofs.numbers.number.Given as goal
 
 -- the digits up to here are read
 abbrev pub invariant-loop-count : goal.invariant-loop-count
