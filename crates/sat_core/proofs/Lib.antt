@@ -1,5 +1,6 @@
 pub mod LiteralLaws
 pub mod LiteralLemmas
+pub mod SearchLaws
 pub mod SoundnessLemmas
 pub mod StorageLemmas
 pub mod ClauseLemmas
