@@ -33,3 +33,8 @@ pub record AreNumbered (dropped : Dropped) (numbers : List ClauseId) (last : ℕ
   pub ascending : AscendsTo dropped.own numbers last
   pub none_behind : (place : ℕ) → length clauses ≤ place → is_dropped dropped place ≡ false
   pub fits : last < 2 ^ 32
+
+-- the same, where the clauses of the log stand in a formula of their own, over the same variables
+pub record AreStored (vars log_vars : ℕ) (dropped : Dropped) (numbers : List ClauseId) (last : ℕ) (clauses : List (List Lit)) : Type 0 where
+  pub same_variables : log_vars ≡ vars
+  pub numbered : AreNumbered dropped numbers last clauses

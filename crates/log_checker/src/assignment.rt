@@ -1,3 +1,5 @@
+//! The literals that are known while a step is read.
+
 ghost use Rattle.std.specs.Prelude.{◌≡◌, ◌+◌, ◌-◌, ◌*◌, ◌<◌, ◌≤◌, Bool, false, IfOk, OnOk, OnErr, [], ◌∷◌, ◌++◌, ◌||◌, cond, length, All, slice_index_or};
 ghost use Rattle.sat_core.specs.declared.literal.Lit.{Lit};
 ghost use Rattle.sat_core.specs.Clauses.{negated, IsOver};
@@ -76,6 +78,7 @@ impl Assignment {
     }
 }
 
+/// The place of the literal's mark.
 fn mark_of(lit: Lit) -> usize
     requires { 1 ≤ lit.var.0 }
     ensures { result ≡ mark_place lit }
@@ -83,7 +86,7 @@ fn mark_of(lit: Lit) -> usize
     2 * (lit.var.0 as usize - 1) + usize::from(lit.positive)
 }
 
-// `vars` stands in the contract alone.
+/// Clears the marks of these literals. `vars` stands in the contract alone.
 fn unmark(vars: u32, marks: &mut [bool], trail: &[Lit])
     requires { AreMarked vars marks.old trail.now }
     ensures { (lit : Lit) → IsOver vars lit → slice_index_or marks.new (mark_place lit) false ≡ false }

@@ -1,3 +1,5 @@
+//! The checker: it takes the steps of a log one by one.
+
 ghost use Rattle.std.specs.Prelude.{◌≡◌, ◌≢◌, OnOk, OnErr, IfOk, IfErr};
 ghost use Rattle.sat_core.specs.Derivation.{database_of, adds, drops, IsAccepted, IsAcceptedAdd, IsAcceptedDrop, IsFaultOf, IsFaultOfAdd, IsFaultOfDrop, after};
 ghost use Rattle.derivation_log.specs.Steps.{derived};

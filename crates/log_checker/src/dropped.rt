@@ -1,3 +1,5 @@
+//! Which clauses were dropped.
+
 ghost use Rattle.std.specs.Prelude.{◌≡◌, ◌&&◌, ◌||◌, ℕ, not, nat_eq, OnOk, OnErr, false, slice_index_or};
 
 use std::alloc::{AllocError, Global};
@@ -61,7 +63,7 @@ impl Dropped {
     }
 }
 
-// Sets the flag, where flags past the end count as not set.
+/// Sets the flag, where flags past the end count as not set.
 fn set(flags: &mut Vec<bool>, place: usize) -> Result<(), AllocError>
     ensures ok { OnOk result ((other : ℕ) → slice_index_or flags.new.items other false ≡ (slice_index_or flags.old.items other false || nat_eq other place)) }
     ensures err { OnErr result ((other : ℕ) → slice_index_or flags.new.items other false ≡ slice_index_or flags.old.items other false) }
@@ -74,6 +76,7 @@ fn set(flags: &mut Vec<bool>, place: usize) -> Result<(), AllocError>
     Ok(())
 }
 
+/// Clears the flag.
 fn unset(flags: &mut Vec<bool>, place: usize)
     ensures { (other : ℕ) → slice_index_or flags.new.items other false ≡ (slice_index_or flags.old.items other false && not (nat_eq other place)) }
 {

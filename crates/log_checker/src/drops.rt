@@ -1,4 +1,5 @@
-// Dropping all of several clauses, or none.
+//! Dropping all of several clauses, or none.
+
 ghost use Rattle.std.specs.Prelude.{◌≡◌, ◌⊎◌, [], ◌∷◌, OnOk, OnErr, IfErr};
 ghost use Rattle.log_checker.specs.Stored.{AscendsTo};
 ghost use Rattle.log_checker.specs.Drops.{IsLiveNumber, CanDrop, DropsAlso, Revives, SameDrops};
@@ -7,8 +8,8 @@ use crate::dropped::Dropped;
 use crate::numbers::place_of;
 use sat_core::{ClauseId, StepFault};
 
-// Drops the clauses with these numbers, where the log's clauses have `numbers`, which end with `last`. After a fault
-// none of them is dropped.
+/// Drops the clauses with these numbers, where the log's clauses have `numbers`, which end with `last`. After a fault
+/// none of them is dropped.
 pub(crate) fn drop_all(
     numbers: &[ClauseId],
     last: u32,
@@ -34,6 +35,7 @@ pub(crate) fn drop_all(
     Ok(())
 }
 
+/// Drops the clause with that number, if it is live.
 fn drop_one(
     numbers: &[ClauseId],
     last: u32,
@@ -61,6 +63,7 @@ fn drop_one(
     }
 }
 
+/// Makes the clauses with these numbers live again.
 fn revive_all(numbers: &[ClauseId], last: u32, dropped: &mut Dropped, ids: &[ClauseId])
     requires { AscendsTo dropped.old.own numbers.now last }
     ensures { Revives numbers.now dropped.old dropped.new ids.now }
@@ -70,6 +73,7 @@ fn revive_all(numbers: &[ClauseId], last: u32, dropped: &mut Dropped, ids: &[Cla
     }
 }
 
+/// Makes the clause with that number live again, if there is one.
 fn revive_one(numbers: &[ClauseId], last: u32, dropped: &mut Dropped, id: ClauseId)
     requires { AscendsTo dropped.old.own numbers.now last }
     ensures { Revives numbers.now dropped.old dropped.new (id ∷ []) }

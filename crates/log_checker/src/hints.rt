@@ -1,4 +1,5 @@
-// The test of a step's hints.
+//! The test of a step's hints.
+
 ghost use Rattle.std.specs.Prelude.{◌≡◌, ◌≢◌, All, Some};
 ghost use Rattle.sat_core.specs.declared.literal.Lit.{Lit};
 ghost use Rattle.sat_core.specs.Clauses.{IsOver};
@@ -53,6 +54,7 @@ pub(crate) fn first_fault(
     Some(StepFault::NoConflict)
 }
 
+/// What the clause tells while the literals of the assignment are known.
 fn read_clause(assignment: &Assignment, lits: &[Lit]) -> Reading
     requires { All (IsOver assignment.now.vars) lits.now }
     ensures outcome { outcome_told result ≡ outcome_by assignment.now.lits (not_false assignment.now.lits lits.now) }

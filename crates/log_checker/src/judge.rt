@@ -1,4 +1,5 @@
-// The tests of an added clause, in their order.
+//! The tests of an added clause, in their order.
+
 ghost use Rattle.std.specs.Prelude.{◌≡◌, ◌≢◌, ◌⊎◌, ◌↔◌, [], map, All, OnOk, IfErr, IsTrue};
 ghost use Rattle.sat_core.specs.Clauses.{negated, IsOver, HasNoVariableTwice};
 ghost use Rattle.sat_core.specs.Derivation.{IsAcceptedAdd, IsFaultOfAdd};
@@ -37,13 +38,14 @@ pub(crate) fn judge(
     }
 }
 
+/// Whether the variables of the literals are all from 1 to `vars`.
 fn are_over(vars: u32, lits: &[Lit]) -> bool
     ensures { IsTrue result ↔ All (IsOver vars) lits.now }
 {
     lits.iter().all(|lit| 1 <= lit.var.0 && lit.var.0 <= vars)
 }
 
-// Makes the negation of each literal known.
+/// Makes the negation of each literal known.
 fn assume_negations(assignment: &mut Assignment, lits: &[Lit]) -> Result<(), StepFault>
     requires in_range { All (IsOver assignment.old.vars) lits.now }
     requires nothing_known { assignment.old.lits ≡ [] }

@@ -1,4 +1,6 @@
-ghost use Rattle.std.specs.Prelude.{◌≡◌, ◌⊎◌, ◌<◌, IfSome, IfErr, OnOk, OnErr, []};
+//! The live clauses of a checker, by their numbers.
+
+ghost use Rattle.std.specs.Prelude.{◌≡◌, ◌⊎◌, ◌<◌, ◌+◌, ◌++◌, Some, IfSome, IfErr, OnOk, OnErr, [], length, slice_get};
 ghost use Rattle.std.specs.Option.{option_copied};
 ghost use Rattle.sat_core.specs.Clauses.{IsClause};
 ghost use Rattle.sat_core.specs.Hints.{clause_of};
@@ -11,25 +13,29 @@ use sat_core::{ClauseId, Formula, Lit, StepFault};
 use std::alloc::AllocError;
 use std::marker::Model;
 
-/// The live clauses by their numbers: those of the formula, and behind them in the same flat storage those of the log.
+/// The live clauses by their numbers: those of the formula, which is left as it came, and those that steps added, in a
+/// formula of their own.
 #[derive(Debug, Drop)]
 pub(crate) struct ClauseStore {
     formula: Formula,
-    // the numbers of the log's clauses
+    // the clauses that steps added
+    log: Formula,
+    // their numbers
     numbers: Vec<ClauseId>,
     last: u32,
     dropped: Dropped,
 }
 
 impl Model for ClauseStore {
+    ghost use Rattle.std.specs.Prelude.{◌++◌};
     ghost use Rattle.sat_core.specs.Derivation.{ClauseDatabase};
-    ghost use Rattle.log_checker.specs.Stored.{live_of, number_at, is_dropped, AreNumbered};
+    ghost use Rattle.log_checker.specs.Stored.{live_of, number_at, is_dropped, AreStored};
 
     ghost Value = { ClauseDatabase };
 
-    ghost view = { λ s. record { vars = s.formula.vars; last = s.last; live = live_of (number_at s.dropped.own s.numbers.items) (is_dropped s.dropped) s.formula.clauses } };
+    ghost view = { λ s. record { vars = s.formula.vars; last = s.last; live = live_of (number_at s.dropped.own s.numbers.items) (is_dropped s.dropped) (s.formula.clauses ++ s.log.clauses) } };
 
-    ghost invariant = { λ s. AreNumbered s.dropped s.numbers.items s.last s.formula.clauses };
+    ghost invariant = { λ s. AreStored s.formula.vars s.log.vars s.dropped s.numbers.items s.last (s.formula.clauses ++ s.log.clauses) };
 }
 
 impl ClauseStore {
@@ -39,8 +45,10 @@ impl ClauseStore {
     {
         let alloc = formula.allocator();
         let own = formula.len();
+        let vars = formula.vars();
         ClauseStore {
             formula,
+            log: Formula::new(alloc, vars),
             numbers: Vec::new(alloc),
             last: own,
             dropped: Dropped::new(alloc, own as usize),
@@ -71,7 +79,7 @@ impl ClauseStore {
                 if self.dropped.contains(place) {
                     None
                 } else {
-                    Some(self.formula.clause(ClauseId(place as u32 + 1)))
+                    Some(clause_at(&self.formula, &self.log, place))
                 }
             }
         }
@@ -86,7 +94,7 @@ impl ClauseStore {
         ensures err { OnErr result (self.new ≡ self.old) }
     {
         self.numbers.reserve(1)?;
-        self.formula.push(lits)?;
+        self.log.push(lits)?;
         self.numbers.push_reserved(id);
         self.last = id.0;
         Ok(())
@@ -102,5 +110,22 @@ impl ClauseStore {
         ensures err { OnErr result (self.new ≡ self.old) }
     {
         drop_all(self.numbers.as_slice(), self.last, &mut self.dropped, ids)
+    }
+}
+
+/// The clause at that place, counted from 0, where the log's clauses stand behind those of the formula.
+fn clause_at<'a>(formula: &'a Formula, log: &'a Formula, place: usize) -> &'a [Lit]
+    requires same_variables { log.now.vars ≡ formula.now.vars }
+    requires within { place < length formula.now.clauses + length log.now.clauses }
+    ensures lits { slice_get (formula.now.clauses ++ log.now.clauses) place ≡ Some result.now }
+    ensures clause { IsClause formula.now.vars result.now }
+{
+    let own = formula.len() as usize;
+    let added = log.len() as usize;
+    if place < own {
+        formula.clause(ClauseId(place as u32 + 1))
+    } else {
+        prove!(place - own < added);
+        log.clause(ClauseId((place - own) as u32 + 1))
     }
 }

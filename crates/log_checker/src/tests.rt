@@ -1,3 +1,5 @@
+//! What no clause says of the checker: that memory suffices, with verdicts compared.
+
 use crate::{Checker, LogVerdict, StepFault, check_log};
 use derivation_log::{Log, Step};
 use sat_core::{ClauseId, Formula, Lit, Var, is_clause};
