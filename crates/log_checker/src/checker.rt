@@ -67,6 +67,7 @@ impl Checker {
         ensures accepted { OnOk result (IsAcceptedAdd self.old id lits.now hints.now) }
         ensures ok { OnOk result (self.new ≡ after self.old (adds id lits.now hints.now)) }
         ensures fault { IfErr result (λ fault. fault ≢ StepFault.Memory → IsFaultOfAdd self.old id lits.now hints.now fault) }
+        ensures memory { result ≡ Err StepFault.Memory → IsAcceptedAdd self.old id lits.now hints.now }
         ensures err { OnErr result (self.new ≡ self.old) }
     {
         let judged = judge(&self.store, &mut self.assignment, id, lits, hints);
