@@ -1,6 +1,6 @@
 //! The live clauses of a checker, by their numbers.
 
-ghost use Rattle.std.specs.Prelude.{◌≡◌, ◌⊎◌, ◌<◌, ◌+◌, ◌++◌, Some, IfSome, IfErr, OnOk, OnErr, [], length, slice_get};
+ghost use Rattle.std.specs.Prelude.{◌≡◌, ◌<◌, ◌+◌, ◌++◌, Some, IfSome, IfOk, IfErr, OnOk, OnErr, [], length, slice_get};
 ghost use Rattle.std.specs.Option.{option_copied};
 ghost use Rattle.sat_core.specs.Clauses.{IsClause};
 ghost use Rattle.sat_core.specs.Hints.{clause_of};
@@ -39,20 +39,21 @@ impl Model for ClauseStore {
 }
 
 impl ClauseStore {
-    /// The clauses of the formula are live. Takes no memory.
-    pub(crate) fn new(formula: Formula) -> ClauseStore
-        ensures { result ≡ database_of formula.vars formula.clauses }
+    /// The clauses of the formula are live. Takes a byte for each.
+    pub(crate) fn new(formula: Formula) -> Result<ClauseStore, AllocError>
+        ensures { IfOk result (λ store. store ≡ database_of formula.vars formula.clauses) }
     {
         let alloc = formula.allocator();
         let own = formula.len();
         let vars = formula.vars();
-        ClauseStore {
+        let dropped = Dropped::new(alloc, own as usize)?;
+        Ok(ClauseStore {
             formula,
             log: Formula::new(alloc, vars),
             numbers: Vec::new(alloc),
             last: own,
-            dropped: Dropped::new(alloc, own as usize),
-        }
+            dropped,
+        })
     }
 
     pub(crate) fn vars(&self) -> u32
@@ -94,19 +95,20 @@ impl ClauseStore {
         ensures err { OnErr result (self.new ≡ self.old) }
     {
         self.numbers.reserve(1)?;
+        self.dropped.flags.reserve(1)?;
         self.log.push(lits)?;
         self.numbers.push_reserved(id);
+        self.dropped.flags.push_reserved(false);
         self.last = id.0;
         Ok(())
     }
 
-    /// Ends the clauses with these numbers. After a fault none of them is ended. Takes memory only where the marks of
-    /// dropped clauses have no room at hand.
+    /// Ends the clauses with these numbers, or none of them where some isn't live or stands twice. Takes no memory.
     pub(crate) fn end(&mut self, ids: &[ClauseId]) -> Result<(), StepFault>
         ensures accepted { OnOk result (IsAcceptedDrop self.old ids.now) }
         ensures ok { OnOk result (self.new ≡ after self.old (drops ids.now)) }
-        ensures unknown { result ≡ Err StepFault.UnknownClause → ¬ IsAcceptedDrop self.old ids.now }
-        ensures faults { IfErr result (λ fault. (fault ≡ StepFault.UnknownClause) ⊎ (fault ≡ StepFault.Memory)) }
+        ensures unknown { OnErr result (¬ IsAcceptedDrop self.old ids.now) }
+        ensures fault { IfErr result (λ fault. fault ≡ StepFault.UnknownClause) }
         ensures err { OnErr result (self.new ≡ self.old) }
     {
         drop_all(self.numbers.as_slice(), self.last, &mut self.dropped, ids)

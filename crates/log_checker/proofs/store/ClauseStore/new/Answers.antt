@@ -5,5 +5,5 @@ use Rattle.log_checker.proofs.store.ClauseStore.new.Goals as goal
 
 pub returns : goal.returns
 returns c =
-    let all : c.args.formula.clauses ++ c.new.result.clauses ≡ c.args.formula.clauses = ap (λ more. c.args.formula.clauses ++ more) c.new.ensures.clauses ∙ append-nil c.args.formula.clauses in
-    rw all (database_of-first c.args.formula.vars c.len-own.result c.new-2.result.items c.new-3.result c.args.formula.clauses c.new-2.ensures.items c.len-own.ensures (c.new-3.ensures.own ∙ c.len-own.ensures) c.new-3.ensures.none)
+    let all : c.args.formula.clauses ++ c.new-2.result.clauses ≡ c.args.formula.clauses = ap (λ more. c.args.formula.clauses ++ more) c.new-2.ensures.clauses ∙ append-nil c.args.formula.clauses in
+    rw all (database_of-first c.args.formula.vars c.len-own.result c.new-3.result.items c.in_ok-dropped.dropped c.args.formula.clauses c.new-3.ensures.items c.len-own.ensures (c.in_ok-dropped.ensures.own ∙ c.len-own.ensures) c.in_ok-dropped.ensures.none)
