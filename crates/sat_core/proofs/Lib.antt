@@ -3,7 +3,6 @@ mod ClauseLemmas
 pub mod HintLaws
 pub mod LiteralLaws
 pub mod LiveLaws
-pub mod OpenLaws
 pub mod SearchLaws
 mod SoundnessLemmas
 pub mod StepLaws

@@ -1,7 +1,7 @@
 use Rattle.std.proofs.Common.{◌<◌, length, arith, sym, subst}
 use Rattle.sat_core.specs.Clauses.{IsOver}
 use Rattle.sat_core.specs.Fresh.{IsOpen}
-use Rattle.sat_core.proofs.OpenLaws.{open_room, NoVariableTwice-push}
+use Rattle.log_checker.proofs.OpenLemmas.{open_room, NoVariableTwice-push}
 use Rattle.log_checker.specs.Assigned.{Known}
 use Rattle.log_checker.proofs.AssignedLemmas.{AreMarked-push}
 use Rattle.log_checker.proofs.assignment.Assignment.assume.Goals as goal

@@ -1,4 +1,4 @@
--- Laws of open literals: their variables stand nowhere among the known ones, which are fewer than all.
+-- Lemmas on open literals: their variables stand nowhere among the known ones, which are fewer than all.
 use Rattle.std.proofs.Common.{◌≡◌, ◌≢◌, ℕ, ◌-◌, ◌<◌, ◌≤◌, Bool, true, false, not, ◌⊎◌, inl, inr, List, [], ◌∷◌, ◌++◌, length, map, get_or, refl, ap, sym, subst, ◌∙◌, arith}
 use Rattle.std.specs.Prelude.{All, AllPairs}
 use lib.Dec.{eqb}
