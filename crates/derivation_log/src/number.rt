@@ -1,7 +1,6 @@
 //! Numbers of a log: 1 to 999,999,999, without a leading zero, and the blank behind each.
-ghost use Rattle.std.specs.Prelude.{◌≡◌, ◌<◌, ◌≤◌, ◌↔◌, ℕ, List, ◌∷◌, ◌++◌, [], decimal, slice_index, IfOk, IfErr, IsTrue, OnOk, OnErr};
-ghost use Rattle.vss_io.specs.Faults.{Rose};
-ghost use Rattle.vss_io.specs.Written.{PutsFront, PutsAllBut};
+ghost use Rattle.std.specs.Prelude.{◌≡◌, ◌<◌, ◌↔◌, ◌∷◌, ◌++◌, [], decimal, slice_index, IfOk, IfErr, IsTrue};
+ghost use Rattle.vss_io.specs.Written.{PrintsAllBut};
 ghost use Rattle.vss_text.specs.Reading.{Misses};
 ghost use Rattle.vss_text.specs.Numbers.{ended};
 ghost use Rattle.derivation_log.specs.Text.{IsLogNumber};
@@ -42,10 +41,7 @@ pub(crate) fn add_number<K: Sink>(
     text: &mut LineBuf,
     out: &mut K,
 ) -> Result<(), SinkFault>
-    ensures front { PutsFront (K.written out.old) (K.written out.new) (text.old ++ (decimal number ++ 32 ∷ [])) }
-    ensures added { OnOk result (PutsAllBut (K.written out.old) (K.written out.new) text.new (text.old ++ (decimal number ++ 32 ∷ []))) }
-    ensures never_falls { K.faults out.old ≤ K.faults out.new }
-    ensures cause { OnErr result (Rose (K.faults out.old) (K.faults out.new)) }
+    ensures { PrintsAllBut (K.shown out.old) (K.shown out.new) text.new (text.old ++ (decimal number ++ 32 ∷ [])) result }
 {
     text.add(Buffer::new().format(number).as_bytes(), out)?;
     text.add(b" ", out)

@@ -1,7 +1,6 @@
 //! The words of a step's lists.
-ghost use Rattle.std.specs.Prelude.{◌≡◌, ◌≢◌, ℕ, List, ◌∷◌, ◌++◌, IfOk, IfErr, OnOk, OnErr, [], ◌≤◌, slice_index};
-ghost use Rattle.vss_io.specs.Faults.{Rose};
-ghost use Rattle.vss_io.specs.Written.{PutsFront, PutsAllBut};
+ghost use Rattle.std.specs.Prelude.{◌≡◌, ◌≢◌, ℕ, List, ◌∷◌, ◌++◌, [], IfOk, IfErr, slice_index};
+ghost use Rattle.vss_io.specs.Written.{PrintsAllBut};
 ghost use Rattle.vss_text.specs.Reading.{Misses};
 ghost use Rattle.derivation_log.specs.Text.{blanked};
 
@@ -26,10 +25,7 @@ pub(crate) trait Word: Sized + Drop {
 
     /// Adds the word and the blank behind it to a line.
     fn add<K: Sink>(&self, text: &mut LineBuf, out: &mut K) -> Result<(), SinkFault>
-        ensures front { PutsFront (K.written out.old) (K.written out.new) (text.old ++ (spelled self.now ++ 32 ∷ [])) }
-        ensures added { OnOk result (PutsAllBut (K.written out.old) (K.written out.new) text.new (text.old ++ (spelled self.now ++ 32 ∷ []))) }
-        ensures never_falls { K.faults out.old ≤ K.faults out.new }
-        ensures cause { OnErr result (Rose (K.faults out.old) (K.faults out.new)) };
+        ensures { PrintsAllBut (K.shown out.old) (K.shown out.new) text.new (text.old ++ (spelled self.now ++ 32 ∷ [])) result };
 
     // no word begins as the end of a list does, and no text begins with two words.
     ghost no_zero: { (word : Self) (rest : List ℕ) → in_range word → slice_index (spelled word ++ 32 ∷ rest) 0 ≢ 48 };
