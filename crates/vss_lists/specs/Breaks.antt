@@ -15,3 +15,13 @@ pub record BreaksFirstAt {X : Type 0} (holds : ℕ → X → Type 0) (items : Li
   pub item : X
   pub is_there : slice_get items place ≡ Some item
   pub breaks : ¬ holds place item
+
+-- the rule holds of each number below the count
+pub record HoldsOfNumbers (holds : ℕ → Type 0) (count : ℕ) : Type 0 where
+  pub at_each : (k : ℕ) → k < count → holds k
+
+-- the rule holds of each number before this one, and not of this one, which is below the count
+pub record FailsFirstAt (holds : ℕ → Type 0) (count number : ℕ) : Type 0 where
+  pub within : number < count
+  pub before : (k : ℕ) → k < number → holds k
+  pub fails : ¬ holds number

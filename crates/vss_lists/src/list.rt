@@ -1,4 +1,6 @@
-ghost use Rattle.std.specs.Prelude.{◌≡◌, [], ◌∷◌, ◌++◌, ◌<◌, length, slice_get, ◌↔◌, IsTrue, OnErr, OnOk, OnSome};
+//! A list that contracts see as its items alone, whatever its capacity.
+
+ghost use Rattle.std.specs.Prelude.{◌≡◌, [], ◌∷◌, ◌++◌, ◌<◌, length, slice_get, slice_set, take, ◌↔◌, IsTrue, OnErr, OnOk, OnSome};
 ghost use Rattle.std.specs.Option.{option_copied};
 
 use std::alloc::{AllocError, Global};
@@ -65,7 +67,52 @@ impl<T> Items<T> {
     }
 }
 
+impl<T> Items<T> {
+    ghost use Rattle.std.specs.Borrow.{sem};
+    ghost use Rattle.vss_lists.specs.Lending.{LendsVec, LendsSlice};
+
+    /// The vector that holds the items, lent without memory. While it is, contracts see its room as well: so many items
+    /// as it has room for are then put there by `push_reserved`, which can't fail.
+    pub fn as_mut_vec(&mut self) -> &mut Vec<T>
+        ensures* writes_back { sem 𝓛 (LendsVec T.row self.entry result) }
+        ensures items { result.now.items ≡ self.old }
+    {
+        &mut self.items
+    }
+
+    /// The items, lent to be changed in place.
+    pub fn as_mut_slice(&mut self) -> &mut [T]
+        ensures* writes_back { sem 𝓛 (LendsSlice T.row self.entry result) }
+        ensures items { result.now ≡ self.old }
+    {
+        self.items.as_mut_slice()
+    }
+
+    /// The vector of the items, without memory.
+    pub fn into_vec(self) -> Vec<T>
+        ensures { result.items ≡ self }
+    {
+        let Items { items } = self;
+        items
+    }
+}
+
 impl<T: Drop> Items<T> {
+    /// Puts the item in place of the one at that place, counted from 0.
+    pub fn set(&mut self, at: usize, item: T)
+        requires { at < length self.old }
+        ensures { self.new ≡ slice_set self.old at item }
+    {
+        self.items[at] = item;
+    }
+
+    /// Drops all items behind the first `len`.
+    pub fn truncate(&mut self, len: usize)
+        ensures { self.new ≡ take len self.old }
+    {
+        self.items.truncate(len);
+    }
+
     /// Appends one item, in amortised constant time.
     pub fn push(&mut self, item: T) -> Result<(), AllocError>
         ensures ok { OnOk result (self.new ≡ self.old ++ item ∷ []) }

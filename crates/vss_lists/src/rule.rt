@@ -1,10 +1,14 @@
+//! Rules of the items of a list, and the first item that breaks one.
+
 ghost use Rattle.std.specs.Prelude.{ℕ, ◌^◌, ◌<◌, ◌↔◌, length, IsTrue, MatchOption};
 ghost use Rattle.vss_lists.specs.Breaks.{HoldsOfEach, BreaksFirstAt};
 
 /// A rule that each item of a list keeps or breaks, at its place, counted from 0.
 pub trait Rule<T> {
+    /// Whether the rule holds of the item at the place.
     ghost holds: { Self → ℕ → T → Type 0 };
 
+    /// Tests the item at its place.
     fn holds(&self, place: u32, item: &T) -> bool
         ensures { IsTrue result ↔ holds self.now place item.now };
 }

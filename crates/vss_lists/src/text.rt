@@ -1,3 +1,5 @@
+//! A text that contracts see as its bytes.
+
 ghost use Rattle.std.specs.Prelude.{◌≡◌, string_bytes};
 
 use std::marker::Model;
@@ -24,12 +26,14 @@ impl Text {
         Text { text }
     }
 
+    /// The whole text.
     pub fn as_str(&self) -> &str
         ensures { result.now ≡ self.now }
     {
         self.text.as_str()
     }
 
+    /// Its bytes, which are UTF-8.
     pub fn as_bytes(&self) -> &[u8]
         ensures { result.now ≡ self.now }
     {

@@ -1,7 +1,7 @@
 use Rattle.std.proofs.Common.{◌≡◌, ◌++◌, ◌∷◌, [], ◌+◌, map, take, arith, ap, sym, ◌∙◌}
 use Rattle.std.proofs.lemmas.List.{map_more}
 use Rattle.sat_core.specs.Clauses.{negated}
-use Rattle.log_checker.proofs.JudgeLemmas.{has_value_is, VariableTwice, NoVariableTwice-more}
+use Rattle.sat_core.proofs.ValueLaws.{has_value_is, VariableTwice, NoVariableTwice-more}
 use Rattle.log_checker.proofs.judge.assume_negations.Goals as goal
 
 pub returns-then-has_value-clause-twofold : goal.returns-then-has_value-clause-twofold

@@ -2,7 +2,7 @@ use Rattle.std.proofs.Common.{◌≡◌, arith, sym, map, subst, refl}
 use Rattle.std.specs.Prelude.{Some, All}
 use Rattle.sat_core.specs.Clauses.{negated, IsOver}
 use Rattle.sat_core.specs.Hints.{hints_fault}
-use Rattle.log_checker.proofs.JudgeLemmas.{fault_of_hints}
+use Rattle.sat_core.proofs.StepLaws.{fault_of_hints}
 use Rattle.log_checker.proofs.judge.judge.Goals as goal
 
 pub returns-in-Some-clause-fault : goal.returns-in-Some-clause-fault

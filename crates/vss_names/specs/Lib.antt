@@ -1,0 +1,2 @@
+-- What a name is.
+pub mod Names
