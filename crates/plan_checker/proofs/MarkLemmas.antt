@@ -12,7 +12,7 @@ use Rattle.layout_rules.specs.Classes.{class_of}
 use Rattle.plan_checker.specs.Clashes.{AreApartAt}
 use Rattle.plan_checker.specs.ClashSearch.{AreAllApart, AreApart, IsClassMarked, IsFreeFor, IsMarked, IsSound, IsTrainMarked, KeepsMarks, Touches}
 use Rattle.plan_checker.specs.declared.marks.Mark.{Mark}
-use Rattle.plan_checker.specs.declared.pairs.Traffic.{Traffic}
+use Rattle.plan_checker.specs.declared.traffic.Traffic.{Traffic}
 use Rattle.plan_checker.proofs.ListSteps.{get_contained, holds_more}
 use Rattle.plan_checker.proofs.PairLemmas.{same_sweep}
 

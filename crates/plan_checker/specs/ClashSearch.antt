@@ -8,9 +8,9 @@ use Rattle.cell_net.specs.declared.cells.DirCell.{DirCell}
 use Rattle.cell_net.specs.declared.plans.Sweep.{Sweep}
 use Rattle.layout_rules.specs.Classes.{AreClasses, class_of}
 use Rattle.plan_checker.specs.Clashes.{HasSweep, AreApartAt, ComesBefore, AreFirstLinked}
-use Rattle.plan_checker.specs.declared.clashes.Clash.{Clash}
+use Rattle.plan_checker.specs.declared.clash.Clash.{Clash}
 use Rattle.plan_checker.specs.declared.marks.Mark.{Mark}
-use Rattle.plan_checker.specs.declared.pairs.Traffic.{Traffic}
+use Rattle.plan_checker.specs.declared.traffic.Traffic.{Traffic}
 
 -- the cells are cells of the instance
 abbrev pub AreCells : Traffic → List DirCell → Type 0

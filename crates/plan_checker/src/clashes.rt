@@ -1,3 +1,5 @@
+//! The first clash of two trains, step by step.
+
 ghost use Rattle.std.specs.Prelude.{◌≡◌, ◌<◌, IfOk, MatchOption, length, ℕ};
 ghost use Rattle.std.specs.List.{AllZip};
 ghost use Rattle.cell_net.specs.Runs.{IsRun};
@@ -5,22 +7,13 @@ ghost use Rattle.layout_rules.specs.Classes.{AreClasses};
 ghost use Rattle.plan_checker.specs.Clashes.{AreApartAt, IsFirstClash};
 ghost use Rattle.plan_checker.specs.ClashSearch.{AreAllApart, AreApart, IsFirstClashAt, IsSound};
 
+use crate::clash::Clash;
 use crate::marks::{Mark, are_clearly_apart, no_marks};
-use crate::pairs::{Traffic, first_clash_at};
-use cell_net::{CellId, Instance, Layout, Plan, TrainId};
+use crate::pairs::first_clash_at;
+use crate::traffic::Traffic;
+use cell_net::{Instance, Layout, Plan};
 use layout_rules::Classes;
 use std::alloc::{AllocError, Global};
-
-/// Two trains of a plan that aren't apart at a step, and by which cells: `a` touches `e` there, and
-/// `b` touches `f`.
-#[derive(Clone, Copy, Debug)]
-pub(crate) struct Clash {
-    pub a: TrainId,
-    pub b: TrainId,
-    pub step: u32,
-    pub e: CellId,
-    pub f: CellId,
-}
 
 /// The first clash of two trains: at the first step, there of the first pair of trains, by the first
 /// linked cells of their sweeps. Takes memory linear in the cells of the instance, and where no two

@@ -1,9 +1,11 @@
+//! Marks of the classes that trains touch at a step.
+
 ghost use Rattle.std.specs.Prelude.{◌≡◌, ◌<◌, ◌↔◌, All, IfOk, IsTrue, length};
 ghost use Rattle.vss_lists.specs.Breaks.{HoldsOfEach};
 ghost use Rattle.layout_rules.specs.Classes.{class_of};
 ghost use Rattle.plan_checker.specs.ClashSearch.{AreAllApart, IsClassMarked, IsFreeFor, IsMarked, IsSound, IsTrainMarked, KeepsMarks};
 
-use crate::pairs::{Traffic, sweep_at};
+use crate::traffic::{Traffic, sweep_at};
 use cell_net::DirCell;
 use layout_rules::Classes;
 use std::alloc::{AllocError, Global};
