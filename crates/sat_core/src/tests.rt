@@ -1,3 +1,5 @@
+//! What no clause says of formulas: that memory suffices, with answers compared.
+
 use crate::{ClauseId, Formula, Lit, Valuation, Var, is_clause};
 use std::alloc::{AllocError, Global};
 use std::process::Abort;
