@@ -8,7 +8,7 @@ use Rattle.cell_net.specs.declared.cells.End.TheVariants.{Low, High}
 use Rattle.cell_net.specs.declared.cells.DirCell.{DirCell}
 use Rattle.cell_net.specs.declared.labels.CellLabel.{CellLabel}
 use Rattle.cell_net.specs.declared.labels.Labels.{Labels}
-use Rattle.vssplan.specs.Ends.{Lacks, BeginsWithNoDigit}
+use Rattle.vssplan.specs.WordEnds.{Lacks, BeginsWithNoDigit}
 use Rattle.vssplan.specs.PrintedNames.{track_name, label_text}
 use Rattle.vssplan.specs.Report.{HasCellName, cell_text, sign}
 use Rattle.vssplan.proofs.EndedWords.{first_byte, name_lacks, word_same, number_same}

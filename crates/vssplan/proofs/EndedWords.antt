@@ -7,7 +7,7 @@ use Rattle.std.specs.Char.{is_ascii_digit}
 use Rattle.std.specs.List.{take_while}
 use Rattle.std.specs.Str.{all_ascii_digits}
 use Rattle.cell_net.specs.Names.{IsName, is_name_byte}
-use Rattle.vssplan.specs.Ends.{Lacks, BeginsWithNoDigit}
+use Rattle.vssplan.specs.WordEnds.{Lacks, BeginsWithNoDigit}
 use Rattle.vssplan.proofs.Numbers.{own}
 
 pub all_rest : {X : Type 0} (P : X → Type 0) (x : X) (xs : List X) → All P (x ∷ xs) → All P xs

@@ -9,7 +9,7 @@ use Rattle.cell_net.specs.declared.labels.PlaceLabel.{PlaceLabel}
 use Rattle.cell_net.specs.declared.labels.PlaceLabel.TheVariants as place
 use Rattle.cell_net.specs.declared.labels.Labels.{Labels}
 use Rattle.vss_io.specs.Line.{line}
-use Rattle.vssplan.specs.Ends.{Lacks}
+use Rattle.vssplan.specs.WordEnds.{Lacks}
 use Rattle.vssplan.specs.PrintedNames.{track_name, cut_text, joint_text, place_text}
 use Rattle.vssplan.specs.PlaceNames.{name_text, IsShortName, IsPlainName, IsPlaceOf, IsFound}
 use Rattle.vssplan.specs.Report.{HasPlaceName, IsShortPlace, border_text}

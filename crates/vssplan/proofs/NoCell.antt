@@ -6,7 +6,7 @@ use Rattle.cell_net.specs.declared.cells.DirCell.{DirCell}
 use Rattle.cell_net.specs.declared.cells.End.{End}
 use Rattle.cell_net.specs.declared.cells.End.TheVariants.{Low, High}
 use Rattle.cell_net.specs.declared.labels.Labels.{Labels}
-use Rattle.vssplan.specs.Ends.{Lacks}
+use Rattle.vssplan.specs.WordEnds.{Lacks}
 use Rattle.vssplan.specs.PrintedNames.{track_name}
 use Rattle.vssplan.specs.Report.{HasCellName, cell_text, sign}
 use Rattle.vssplan.proofs.EndedWords.{word_same}

@@ -6,7 +6,7 @@ use Rattle.cell_net.specs.declared.ids.CandidateId.{CandidateId}
 use Rattle.cell_net.specs.declared.labels.Labels.{Labels}
 use Rattle.cell_net.specs.declared.plans.Plan.{Plan}
 use Rattle.cell_net.specs.declared.plans.TrainRun.{TrainRun}
-use Rattle.vssplan.specs.Ends.{BeginsWithNoSweep}
+use Rattle.vssplan.specs.WordEnds.{BeginsWithNoSweep}
 use Rattle.vssplan.specs.Report.{HasPlaceName, IsReportRun, IsDesign, border_text, runs_text}
 use Rattle.vssplan.proofs.EndedWords.{number_same}
 use Rattle.vssplan.proofs.ListItems.{items_within, as_many_read}

@@ -6,7 +6,7 @@ use Rattle.cell_net.specs.Labelled.{AreLabels}
 use Rattle.cell_net.specs.declared.labels.Labels.{Labels}
 use Rattle.cell_net.specs.declared.plans.Sweep.{Sweep}
 use Rattle.cell_net.specs.declared.plans.TrainRun.{TrainRun}
-use Rattle.vssplan.specs.Ends.{BeginsWithNoSweep}
+use Rattle.vssplan.specs.WordEnds.{BeginsWithNoSweep}
 use Rattle.vssplan.specs.Report.{IsReportSweep, IsReportRun, sweep_text, start_text, run_text, runs_text}
 use Rattle.vssplan.proofs.EndedWords.{number_same, all_first}
 use Rattle.vssplan.proofs.ListItems.{items_until, all_read}

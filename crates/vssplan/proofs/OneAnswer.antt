@@ -1,14 +1,16 @@
 -- The words and the told files decide the answer.
 use Rattle.std.proofs.Common.{◌≡◌, ◌≤◌, ℕ, List, Option, Some, IsTrue, length, refl, sym, ap, subst, ◌∙◌, arith}
 use Rattle.std.proofs.lemmas.Option.{same_Some}
-use Rattle.vss_io.specs.Shelf.{IsLongerThan}
+use Rattle.vss_io.specs.Reading.{IsLongerThan}
+use Rattle.vss_io.specs.Shown.{Files, Output}
 use Rattle.vss_io.specs.Written.{followed_by}
 use Rattle.vssplan.specs.Words.{FileNames, AskToJudge}
-use Rattle.vssplan.specs.Inputs.{limit, status_of}
+use Rattle.vssplan.specs.Inputs.{limit}
+use Rattle.vssplan.specs.Statuses.{status_of}
 use Rattle.vssplan.specs.Network.{IsLineNetwork}
 use Rattle.vssplan.specs.Scene.{IsScene}
 use Rattle.vssplan.specs.Report.{IsDesign}
-use Rattle.vssplan.specs.Run.{Files, IsRead, IsTooLong, HasNetwork, HasScene, IsRefused, IsFoundLawful, IsFoundUnlawful, IsRight, IsOfFiles, IsEndedWith, AreDecisive}
+use Rattle.vssplan.specs.Run.{IsRead, IsTooLong, HasNetwork, HasScene, IsRefused, IsFoundLawful, IsFoundUnlawful, IsRight, IsOfFiles, IsEndedWith, AreDecisive}
 use Rattle.vssplan.specs.Texts.{answer_text}
 use Rattle.vssplan.specs.declared.documents.network.LineNetwork.{LineNetwork}
 use Rattle.plan_checker.specs.Verdicts.{IsFirstBreach}
@@ -241,50 +243,50 @@ same_names words one other is also =
     λ i. record { network = network i; timetable = timetable i; report = report i }
 
 -- right answers, other than faults of reading, are one
-one_answer : (words : List (List ℕ)) (files : Files) (faults : List ℕ → ℕ) (a b : Answer) → IsLaw → IsTrue files.tells → IsOfFiles a → IsOfFiles b
-    → IsRight words files faults a → IsRight words files faults b → a ≡ b
-one_answer words files faults (answer.ReadFault input) b law tells x y one other = absurd x
-one_answer words files faults answer.Usage (answer.ReadFault input) law tells x y one other = absurd y
-one_answer words files faults answer.Usage answer.Usage law tells x y one other = refl
-one_answer words files faults answer.Usage (answer.Refused input refusal) law tells x y one other = absurd (one other.0 other.1)
-one_answer words files faults answer.Usage (answer.Lawful count) law tells x y one other = absurd (one other.0 other.1)
-one_answer words files faults answer.Usage (answer.Breach breach labels) law tells x y one other = absurd (one other.0 other.1)
-one_answer words files faults (answer.Refused input refusal) (answer.ReadFault file) law tells x y one other = absurd y
-one_answer words files faults (answer.Refused input refusal) answer.Usage law tells x y one other = absurd (other one.0 one.1)
-one_answer words files faults (answer.Refused input refusal) (answer.Refused file why) law tells x y one other =
+one_answer : (words : List (List ℕ)) (files : Files) (after : Files) (a b : Answer) → IsLaw → IsTrue files.tells → IsOfFiles a → IsOfFiles b
+    → IsRight words files after a → IsRight words files after b → a ≡ b
+one_answer words files after (answer.ReadFault input) b law tells x y one other = absurd x
+one_answer words files after answer.Usage (answer.ReadFault input) law tells x y one other = absurd y
+one_answer words files after answer.Usage answer.Usage law tells x y one other = refl
+one_answer words files after answer.Usage (answer.Refused input refusal) law tells x y one other = absurd (one other.0 other.1)
+one_answer words files after answer.Usage (answer.Lawful count) law tells x y one other = absurd (one other.0 other.1)
+one_answer words files after answer.Usage (answer.Breach breach labels) law tells x y one other = absurd (one other.0 other.1)
+one_answer words files after (answer.Refused input refusal) (answer.ReadFault file) law tells x y one other = absurd y
+one_answer words files after (answer.Refused input refusal) answer.Usage law tells x y one other = absurd (other one.0 one.1)
+one_answer words files after (answer.Refused input refusal) (answer.Refused file why) law tells x y one other =
     one_refusal files one.0 input file refusal why tells one.2
     (subst (λ (n : FileNames). IsRefused files n file why) (same_names words one.0 other.0 one.1 other.1) other.2)
-one_answer words files faults (answer.Refused input refusal) (answer.Lawful count) law tells x y one other =
+one_answer words files after (answer.Refused input refusal) (answer.Lawful count) law tells x y one other =
     let found = subst (λ (n : FileNames). IsFoundLawful files n count) (same_names words one.0 other.0 one.1 other.1) other.2 in
     absurd (not_refused files one.0 input refusal tells (lawful_accepted files one.0 count found) one.2)
-one_answer words files faults (answer.Refused input refusal) (answer.Breach breach labels) law tells x y one other =
+one_answer words files after (answer.Refused input refusal) (answer.Breach breach labels) law tells x y one other =
     let found = subst (λ (n : FileNames). IsFoundUnlawful files n breach labels) (same_names words one.0 other.0 one.1 other.1) other.2 in
     absurd (not_refused files one.0 input refusal tells (unlawful_accepted files one.0 breach labels found) one.2)
-one_answer words files faults (answer.Lawful count) (answer.ReadFault file) law tells x y one other = absurd y
-one_answer words files faults (answer.Lawful count) answer.Usage law tells x y one other = absurd (other one.0 one.1)
-one_answer words files faults (answer.Lawful count) (answer.Refused input refusal) law tells x y one other =
+one_answer words files after (answer.Lawful count) (answer.ReadFault file) law tells x y one other = absurd y
+one_answer words files after (answer.Lawful count) answer.Usage law tells x y one other = absurd (other one.0 one.1)
+one_answer words files after (answer.Lawful count) (answer.Refused input refusal) law tells x y one other =
     let found = subst (λ (n : FileNames). IsFoundLawful files n count) (same_names words other.0 one.0 other.1 one.1) one.2 in
     absurd (not_refused files other.0 input refusal tells (lawful_accepted files other.0 count found) other.2)
-one_answer words files faults (answer.Lawful count) (answer.Lawful number) law tells x y one other =
+one_answer words files after (answer.Lawful count) (answer.Lawful number) law tells x y one other =
     one_count files one.0 count number tells one.2
     (subst (λ (n : FileNames). IsFoundLawful files n number) (same_names words one.0 other.0 one.1 other.1) other.2)
-one_answer words files faults (answer.Lawful count) (answer.Breach breach labels) law tells x y one other =
+one_answer words files after (answer.Lawful count) (answer.Breach breach labels) law tells x y one other =
     let found = subst (λ (n : FileNames). IsFoundUnlawful files n breach labels) (same_names words one.0 other.0 one.1 other.1) other.2 in
     absurd (not_both files one.0 count breach labels tells one.2 found)
-one_answer words files faults (answer.Breach breach labels) (answer.ReadFault file) law tells x y one other = absurd y
-one_answer words files faults (answer.Breach breach labels) answer.Usage law tells x y one other = absurd (other one.0 one.1)
-one_answer words files faults (answer.Breach breach labels) (answer.Refused input refusal) law tells x y one other =
+one_answer words files after (answer.Breach breach labels) (answer.ReadFault file) law tells x y one other = absurd y
+one_answer words files after (answer.Breach breach labels) answer.Usage law tells x y one other = absurd (other one.0 one.1)
+one_answer words files after (answer.Breach breach labels) (answer.Refused input refusal) law tells x y one other =
     let found = subst (λ (n : FileNames). IsFoundUnlawful files n breach labels) (same_names words other.0 one.0 other.1 one.1) one.2 in
     absurd (not_refused files other.0 input refusal tells (unlawful_accepted files other.0 breach labels found) other.2)
-one_answer words files faults (answer.Breach breach labels) (answer.Lawful count) law tells x y one other =
+one_answer words files after (answer.Breach breach labels) (answer.Lawful count) law tells x y one other =
     let found = subst (λ (n : FileNames). IsFoundUnlawful files n breach labels) (same_names words other.0 one.0 other.1 one.1) one.2 in
     absurd (not_both files other.0 count breach labels tells other.2 found)
-one_answer words files faults (answer.Breach breach labels) (answer.Breach also named) law tells x y one other =
+one_answer words files after (answer.Breach breach labels) (answer.Breach also named) law tells x y one other =
     one_breach files one.0 breach also labels named law tells one.2
     (subst (λ (n : FileNames). IsFoundUnlawful files n also named) (same_names words one.0 other.0 one.1 other.1) other.2)
 
 -- an answer that was printed whole is the end, unless it is a fault of reading
-ends_itself : (told : Answer) (before now : Option (List ℕ)) → now ≡ followed_by before (answer_text told) → IsEndedWith told before now (status_of told)
+ends_itself : (told : Answer) (before now : Output) → now.written ≡ followed_by before.written (answer_text told) → IsEndedWith told before now (status_of told)
 ends_itself (answer.ReadFault input) before now printed = tt
 ends_itself answer.Usage before now printed = (printed, refl)
 ends_itself (answer.Refused input refusal) before now printed = (printed, refl)
@@ -292,21 +294,21 @@ ends_itself (answer.Lawful count) before now printed = (printed, refl)
 ends_itself (answer.Breach breach labels) before now printed = (printed, refl)
 
 -- a right answer that was printed whole is every right answer
-ends_with : (words : List (List ℕ)) (files : Files) (faults : List ℕ → ℕ) (told : Answer) (before now : Option (List ℕ)) → IsLaw → IsOfFiles told
-    → IsRight words files faults told → now ≡ followed_by before (answer_text told) → AreDecisive words files faults before now (status_of told)
-ends_with words files faults told before now law whole right printed = λ tells said also one.
-    subst (λ (a : Answer). IsEndedWith a before now (status_of told)) (one_answer words files faults told said law tells whole also right one)
+ends_with : (words : List (List ℕ)) (files : Files) (after : Files) (told : Answer) (before now : Output) → IsLaw → IsOfFiles told
+    → IsRight words files after told → now.written ≡ followed_by before.written (answer_text told) → AreDecisive words files after before now (status_of told)
+ends_with words files after told before now law whole right printed = λ tells said also one.
+    subst (λ (a : Answer). IsEndedWith a before now (status_of told)) (one_answer words files after told said law tells whole also right one)
     (ends_itself told before now printed)
 
-decides : (words : List (List ℕ)) (files : Files) (faults : List ℕ → ℕ) (told : Answer) (before now : Option (List ℕ))
-    → IsLaw → IsRight words files faults told → now ≡ followed_by before (answer_text told) → AreDecisive words files faults before now (status_of told)
-decides words files faults (answer.ReadFault input) before now law right printed = λ tells said also one. tt
-decides words files faults answer.Usage before now law right printed = ends_with words files faults answer.Usage before now law tt right printed
-decides words files faults (answer.Refused input refusal) before now law right printed = ends_with words files faults (answer.Refused input refusal) before now law tt right printed
-decides words files faults (answer.Lawful count) before now law right printed = ends_with words files faults (answer.Lawful count) before now law tt right printed
-decides words files faults (answer.Breach breach labels) before now law right printed = ends_with words files faults (answer.Breach breach labels) before now law tt right printed
+decides : (words : List (List ℕ)) (files : Files) (after : Files) (told : Answer) (before now : Output)
+    → IsLaw → IsRight words files after told → now.written ≡ followed_by before.written (answer_text told) → AreDecisive words files after before now (status_of told)
+decides words files after (answer.ReadFault input) before now law right printed = λ tells said also one. tt
+decides words files after answer.Usage before now law right printed = ends_with words files after answer.Usage before now law tt right printed
+decides words files after (answer.Refused input refusal) before now law right printed = ends_with words files after (answer.Refused input refusal) before now law tt right printed
+decides words files after (answer.Lawful count) before now law right printed = ends_with words files after (answer.Lawful count) before now law tt right printed
+decides words files after (answer.Breach breach labels) before now law right printed = ends_with words files after (answer.Breach breach labels) before now law tt right printed
 
-pub is_decisive : (words : List (List ℕ)) (files : Files) (faults : List ℕ → ℕ) (told : Answer) (before now : Option (List ℕ)) (ended : Status)
-    → IsLaw → IsRight words files faults told → now ≡ followed_by before (answer_text told) → ended ≡ status_of told
-    → AreDecisive words files faults before now ended
-is_decisive words files faults told before now ended law right printed is = rw is (decides words files faults told before now law right printed)
+pub is_decisive : (words : List (List ℕ)) (files : Files) (after : Files) (told : Answer) (before now : Output) (ended : Status)
+    → IsLaw → IsRight words files after told → now.written ≡ followed_by before.written (answer_text told) → ended ≡ status_of told
+    → AreDecisive words files after before now ended
+is_decisive words files after told before now ended law right printed is = rw is (decides words files after told before now law right printed)

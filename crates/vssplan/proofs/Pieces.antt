@@ -1,16 +1,13 @@
 -- The pieces of a line make its text.
-use Rattle.std.proofs.Common.{◌≡◌, ℕ, List, [], ◌∷◌, ◌++◌, Option, Result, OnOk, ap, subst, ◌∙◌, append_assoc, codes}
+use Rattle.std.proofs.Common.{◌≡◌, ℕ, List, [], ◌∷◌, ◌++◌, Result, ap, subst, ◌∙◌, append_assoc, codes}
 use Rattle.std.proofs.lemmas.List.{append-nil}
-use Rattle.vss_io.specs.Written.{followed_by, PutsFront}
+use Rattle.vss_io.specs.Shown.{Output}
+use Rattle.vss_io.specs.Written.{Prints}
 use Rattle.vss_io.specs.Line.{flat, line}
 
 -- what was printed as one text was printed as another that is the same
-pub prints_front : {before now : Option (List ℕ)} (t u : List ℕ) → t ≡ u → PutsFront before now t → PutsFront before now u
-prints_front {before} {now} t u e h = subst (λ (x : List ℕ). PutsFront before now x) e h
-
-pub prints_whole : {T E : Type 0} (before now : Option (List ℕ)) (r : Result T E) (t u : List ℕ) → t ≡ u
-    → OnOk r (now ≡ followed_by before t) → OnOk r (now ≡ followed_by before u)
-prints_whole before now r t u e h = subst (λ (x : List ℕ). OnOk r (now ≡ followed_by before x)) e h
+pub prints_same : {T E : Type 0} (before now : Output) (t u : List ℕ) (r : Result T E) → t ≡ u → Prints before now t r → Prints before now u r
+prints_same before now t u r e h = subst (λ (x : List ℕ). Prints before now x r) e h
 
 -- the pieces of one text among others
 flat_inner : (x y z e rest : List ℕ) → flat (x ∷ y ∷ z ∷ []) ≡ e → x ++ (y ++ (z ++ rest)) ≡ e ++ rest

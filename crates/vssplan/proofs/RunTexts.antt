@@ -5,7 +5,7 @@ use Rattle.std.proofs.lemmas.List.{append-nil, append_cancel_left, take_all, dro
 use Rattle.cell_net.specs.Labelled.{AreLabels}
 use Rattle.cell_net.specs.declared.labels.Labels.{Labels}
 use Rattle.cell_net.specs.declared.plans.TrainRun.{TrainRun}
-use Rattle.vssplan.specs.Ends.{BeginsWithNoSweep}
+use Rattle.vssplan.specs.WordEnds.{BeginsWithNoSweep}
 use Rattle.vssplan.specs.Report.{IsReportSweep, IsReportRun, sweep_text, run_text, runs_text}
 use Rattle.vssplan.proofs.EndedWords.{first_byte, number_same, all_first, all_rest}
 use Rattle.vssplan.proofs.ListItems.{items_until, all_read}

@@ -6,7 +6,7 @@ use Rattle.cell_net.specs.Labelled.{AreLabels}
 use Rattle.cell_net.specs.declared.cells.DirCell.{DirCell}
 use Rattle.cell_net.specs.declared.labels.Labels.{Labels}
 use Rattle.cell_net.specs.declared.plans.Sweep.{Sweep}
-use Rattle.vssplan.specs.Ends.{BeginsWithNoSweep}
+use Rattle.vssplan.specs.WordEnds.{BeginsWithNoSweep}
 use Rattle.vssplan.specs.Report.{HasCellName, IsReportSweep, cell_text, sweep_text}
 use Rattle.vssplan.proofs.EndedWords.{first_byte}
 use Rattle.vssplan.proofs.CellTexts.{cell_same}

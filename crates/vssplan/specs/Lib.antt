@@ -1,4 +1,5 @@
-pub mod Ends
+-- The definitions of the program.
+pub mod EarlyEnds
 pub mod FileNames
 pub mod FirstCells
 pub mod Grid
@@ -10,8 +11,9 @@ pub mod PrintedNames
 pub mod Report
 pub mod Run
 pub mod Scene
-pub mod Stops
+pub mod Statuses
 pub mod Texts
 pub mod Timetable
 pub mod Trains
+pub mod WordEnds
 pub mod Words

@@ -1,6 +1,6 @@
 -- The name of a place as it was read, before the place is found.
 use Rattle.std.specs.Prelude.{◌≡◌, ◌≤◌, ℕ, List, Some, slice_get}
-use Rattle.vssplan.specs.Ends.{Lacks}
+use Rattle.vssplan.specs.WordEnds.{Lacks}
 use Rattle.vssplan.specs.PrintedNames.{track_name, cut_text, joint_text}
 use Rattle.vssplan.specs.Report.{IsShort}
 use Rattle.vssplan.specs.declared.report.borders.PlaceName.{PlaceName}

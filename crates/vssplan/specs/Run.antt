@@ -1,10 +1,12 @@
--- What a run reads and what it answers.
-use Rattle.std.specs.Prelude.{◌≡◌, ◌≤◌, ℕ, Bool, List, length, Option, Some, IsTrue}
+-- What a call of the program reads and what it answers.
+use Rattle.std.specs.Prelude.{◌≡◌, ◌≤◌, ℕ, List, length, Some, IsTrue}
 use Rattle.vss_io.specs.Faults.{Rose}
-use Rattle.vss_io.specs.Shelf.{IsLongerThan}
+use Rattle.vss_io.specs.Reading.{IsLongerThan}
+use Rattle.vss_io.specs.Shown.{Files, Output}
 use Rattle.vss_io.specs.Written.{followed_by, PutsFront}
-use Rattle.vssplan.specs.Words.{FileNames, AskToJudge}
-use Rattle.vssplan.specs.Inputs.{name_of, limit, status_of}
+use Rattle.vssplan.specs.Words.{FileNames, AskToJudge, NameFiles}
+use Rattle.vssplan.specs.Inputs.{name_of, limit}
+use Rattle.vssplan.specs.Statuses.{status_of}
 use Rattle.vssplan.specs.Network.{IsLineNetwork}
 use Rattle.vssplan.specs.Scene.{IsScene}
 use Rattle.vssplan.specs.Report.{IsDesign, IsOnlyDesign}
@@ -25,21 +27,6 @@ use Rattle.vssplan.specs.declared.answer.Answer.TheVariants as answer
 use Rattle.plan_checker.specs.declared.judging.Breach.{Breach}
 use Rattle.vssplan.specs.declared.status.Status.{Status}
 use Rattle.vssplan.specs.declared.status.Status.TheVariants as status
-
--- what a shelf shows: whether it tells its files, the files, and how often the reading of a name failed
-pub record Files : Type 0 where
-  pub tells : Bool
-  pub file : List ℕ → Option (List ℕ)
-  pub faults : List ℕ → ℕ
-
-abbrev pub shown : Bool → (List ℕ → Option (List ℕ)) → (List ℕ → ℕ) → Files
-shown tells file faults = record { tells = tells; file = file; faults = faults }
-
--- reading changes no file, and no count of faults falls
-pub record Keeps (before after : Files) : Type 0 where
-  pub same_tells : after.tells ≡ before.tells
-  pub same_files : (name : List ℕ) → after.file name ≡ before.file name
-  pub never_falls : (name : List ℕ) → before.faults name ≤ after.faults name
 
 -- these are the bytes of the file, no more than are read, where the shelf tells its files
 pub record IsRead (files : Files) (names : FileNames) (input : Input) (bytes : List ℕ) : Type 0 where
@@ -134,48 +121,52 @@ pub record IsFoundUnlawful (files : Files) (names : FileNames) (breach : Breach)
   pub report_read : IsRead files names Report report
   pub unlawful : IsUnlawfulReport parts labels report breach
 
--- the answer about these files is right, with the counts of faults as they were before the run and as
--- they are after it
-abbrev pub IsRightFor : Files → (List ℕ → ℕ) → FileNames → Answer → Type 0
-IsRightFor files faults names answer.Usage = ⊥
-IsRightFor files faults names (answer.ReadFault input) =
-    IsReached files names input × Rose (files.faults (name_of names input)) (faults (name_of names input))
-IsRightFor files faults names (answer.Refused input refusal) = IsRefused files names input refusal
-IsRightFor files faults names (answer.Lawful borders) = IsFoundLawful files names borders
-IsRightFor files faults names (answer.Breach breach labels) = IsFoundUnlawful files names breach labels
+-- the answer about these files is right, with what the shelf shows before the call and after it
+abbrev pub IsRightFor : Files → Files → FileNames → Answer → Type 0
+IsRightFor files after names answer.Usage = ⊥
+IsRightFor files after names (answer.ReadFault input) =
+    IsReached files names input × Rose (files.faults (name_of names input)) (after.faults (name_of names input))
+IsRightFor files after names (answer.Refused input refusal) = IsRefused files names input refusal
+IsRightFor files after names (answer.Lawful borders) = IsFoundLawful files names borders
+IsRightFor files after names (answer.Breach breach labels) = IsFoundUnlawful files names breach labels
 
 -- the answer to the words is right: the usage just where they ask for no task, and else what is right
 -- for the files that they name
-abbrev pub IsRight : List (List ℕ) → Files → (List ℕ → ℕ) → Answer → Type 0
-IsRight words files faults answer.Usage = (names : FileNames) → ¬ AskToJudge words names
-IsRight words files faults said = (names : FileNames) × AskToJudge words names × IsRightFor files faults names said
+abbrev pub IsRight : List (List ℕ) → Files → Files → Answer → Type 0
+IsRight words files after answer.Usage = (names : FileNames) → ¬ AskToJudge words names
+IsRight words files after said = (names : FileNames) × AskToJudge words names × IsRightFor files after names said
 
 -- a right answer was printed whole, and this is its status
-pub record Says (words : List (List ℕ)) (files : Files) (faults : List ℕ → ℕ) (before now : Option (List ℕ)) (ended : Status) : Type 0 where
+pub record Says (words : List (List ℕ)) (files after : Files) (before now : Output) (ended : Status) : Type 0 where
   pub said : Answer
-  pub right : IsRight words files faults said
-  pub printed : now ≡ followed_by before (answer_text said)
+  pub right : IsRight words files after said
+  pub printed : now.written ≡ followed_by before.written (answer_text said)
   pub status_is : ended ≡ status_of said
 
 -- of a right answer only a front was printed
-pub record BreaksOff (words : List (List ℕ)) (files : Files) (faults : List ℕ → ℕ) (before now : Option (List ℕ)) : Type 0 where
+pub record BreaksOff (words : List (List ℕ)) (files after : Files) (before now : Output) : Type 0 where
   pub said : Answer
-  pub right : IsRight words files faults said
-  pub front : PutsFront before now (answer_text said)
+  pub right : IsRight words files after said
+  pub front : PutsFront before.written now.written (answer_text said)
 
--- how a run ends: for want of memory with nothing printed, in a fault of writing with a front of a
+-- for want of memory nothing was printed; it comes only where the words name files
+pub record LacksMemory (words : List (List ℕ)) (before now : Output) : Type 0 where
+  pub name_files : NameFiles words
+  pub nothing : now ≡ before
+
+-- how a call ends: for want of memory with nothing printed, in a fault of writing with a front of a
 -- right answer printed, and else with a right answer
-abbrev pub Ends : List (List ℕ) → Files → (List ℕ → ℕ) → Option (List ℕ) → Option (List ℕ) → Status → Type 0
-Ends words files faults before now status.Memory = now ≡ before
-Ends words files faults before now status.WriteFault = BreaksOff words files faults before now
-Ends words files faults before now ended = Says words files faults before now ended
+abbrev pub Ends : List (List ℕ) → Files → Files → Output → Output → Status → Type 0
+Ends words files after before now status.Memory = LacksMemory words before now
+Ends words files after before now status.WriteFault = BreaksOff words files after before now
+Ends words files after before now ended = Says words files after before now ended
 
--- the run printed this answer and ended with its status, or a fault or want of memory came in its place
-abbrev pub IsEndedWith : Answer → Option (List ℕ) → Option (List ℕ) → Status → Type 0
+-- the call printed this answer and ended with its status, or a fault or want of memory came in its place
+abbrev pub IsEndedWith : Answer → Output → Output → Status → Type 0
 IsEndedWith said before now status.ReadFault = Unit {0}
 IsEndedWith said before now status.WriteFault = Unit {0}
 IsEndedWith said before now status.Memory = Unit {0}
-IsEndedWith said before now ended = (now ≡ followed_by before (answer_text said)) × (ended ≡ status_of said)
+IsEndedWith said before now ended = (now.written ≡ followed_by before.written (answer_text said)) × (ended ≡ status_of said)
 
 -- the answer is no fault of reading
 abbrev pub IsOfFiles : Answer → Type 0
@@ -183,7 +174,7 @@ IsOfFiles (answer.ReadFault input) = ⊥
 IsOfFiles said = Unit {0}
 
 -- where a shelf tells its files, the words and the files decide the answer: whatever answer is right, the
--- run ended with it, but for faults and want of memory
-abbrev pub AreDecisive : List (List ℕ) → Files → (List ℕ → ℕ) → Option (List ℕ) → Option (List ℕ) → Status → Type 0
-AreDecisive words files faults before now ended =
-    IsTrue files.tells → (said : Answer) → IsOfFiles said → IsRight words files faults said → IsEndedWith said before now ended
+-- call ended with it, but for faults and want of memory
+abbrev pub AreDecisive : List (List ℕ) → Files → Files → Output → Output → Status → Type 0
+AreDecisive words files after before now ended =
+    IsTrue files.tells → (said : Answer) → IsOfFiles said → IsRight words files after said → IsEndedWith said before now ended

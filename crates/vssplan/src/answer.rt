@@ -1,7 +1,9 @@
-ghost use Rattle.std.specs.Prelude.{◌≡◌, OnOk, OnErr};
-ghost use Rattle.vss_io.specs.Faults.{Rose};
-ghost use Rattle.vss_io.specs.Written.{followed_by, PutsFront};
-ghost use Rattle.vssplan.specs.Inputs.{limit as most_bytes, status_of};
+//! What a call has to say: its answer, with the line and the status that belong to it.
+
+ghost use Rattle.std.specs.Prelude.{◌≡◌};
+ghost use Rattle.vss_io.specs.Written.{Prints};
+ghost use Rattle.vssplan.specs.Inputs.{limit as most_bytes};
+ghost use Rattle.vssplan.specs.Statuses.{status_of};
 ghost use Rattle.vssplan.specs.Texts.{input_word, refusal_word, answer_text};
 
 use crate::breach::print_breach;
@@ -11,8 +13,10 @@ use itoa::Buffer;
 use plan_checker::Breach;
 use vss_io::{Sink, SinkFault, print_line};
 
+/// The most bytes of a network or a timetable.
 const LONGEST_DOCUMENT: u64 = 16_777_216;
 
+/// The most bytes of a report.
 const LONGEST_REPORT: u64 = 1_073_741_824;
 
 /// One of the three files that a task reads.
@@ -24,6 +28,7 @@ pub enum Input {
 }
 
 impl Input {
+    /// The word for the file in printed lines.
     fn word(self) -> &'static [u8]
         ensures { result.now ≡ input_word self }
     {
@@ -55,6 +60,7 @@ pub enum Refusal {
 }
 
 impl Refusal {
+    /// The word for the reason in printed lines.
     fn word(self) -> &'static [u8]
         ensures { result.now ≡ refusal_word self }
     {
@@ -65,7 +71,7 @@ impl Refusal {
     }
 }
 
-/// What a run has to say.
+/// What a call has to say.
 #[derive(Debug, Drop)]
 pub enum Answer {
     /// The words ask for no task.
@@ -81,6 +87,7 @@ pub enum Answer {
 }
 
 impl Answer {
+    /// The status that belongs to the answer.
     pub fn status(&self) -> Status
         ensures { result ≡ status_of self.now }
     {
@@ -95,9 +102,7 @@ impl Answer {
 
     /// Prints the answer's line, without memory.
     pub fn print<K: Sink>(&self, out: &mut K) -> Result<(), SinkFault>
-        ensures front { PutsFront (K.written out.old) (K.written out.new) (answer_text self.now) }
-        ensures whole { OnOk result (K.written out.new ≡ followed_by (K.written out.old) (answer_text self.now)) }
-        ensures cause { OnErr result (Rose (K.faults out.old) (K.faults out.new)) }
+        ensures { Prints (K.shown out.old) (K.shown out.new) (answer_text self.now) result }
     {
         match self {
             Answer::Usage => print_line(

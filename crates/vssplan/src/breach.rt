@@ -1,6 +1,7 @@
-ghost use Rattle.std.specs.Prelude.{◌≡◌, [], ◌∷◌, ◌++◌, List, ℕ, OnOk, OnErr, Some, codes};
-ghost use Rattle.vss_io.specs.Faults.{Rose};
-ghost use Rattle.vss_io.specs.Written.{followed_by, PutsFront};
+//! The printed line of a breach.
+
+ghost use Rattle.std.specs.Prelude.{◌≡◌, [], ◌∷◌, ◌++◌, List, ℕ, Some, codes};
+ghost use Rattle.vss_io.specs.Written.{Prints};
 ghost use Rattle.vss_io.specs.Line.{flat, line};
 ghost use Rattle.vssplan.specs.PrintedNames.{cell_name, place_name, place_text};
 ghost use Rattle.vssplan.specs.Texts.{apart_text, breach_text, train_text};
@@ -20,6 +21,7 @@ struct CellPieces<'l, 'd> {
 }
 
 impl<'l, 'd> CellPieces<'l, 'd> {
+    /// The pieces of the cell's name; nothing where there is no such cell.
     fn new(labels: &'l Labels, cell: CellId, digits: &'d mut Buffer) -> CellPieces<'l, 'd>
         ensures { flat (result.track.now ∷ result.colon.now ∷ result.index.now ∷ []) ≡ cell_name labels.now cell }
     {
@@ -41,9 +43,7 @@ impl<'l, 'd> CellPieces<'l, 'd> {
 /// Prints the line of a breach.
 #[tactic(auto, unfolding(crate::specs::Texts::breach_text))]
 pub fn print_breach<K: Sink>(labels: &Labels, breach: &Breach, out: &mut K) -> Result<(), SinkFault>
-    ensures front { PutsFront (K.written out.old) (K.written out.new) (line (breach_text labels.now breach.now)) }
-    ensures whole { OnOk result (K.written out.new ≡ followed_by (K.written out.old) (line (breach_text labels.now breach.now))) }
-    ensures cause { OnErr result (Rose (K.faults out.old) (K.faults out.new)) }
+    ensures { Prints (K.shown out.old) (K.shown out.new) (line (breach_text labels.now breach.now)) result }
 {
     match *breach {
         Breach::Border { candidate } => print_border(labels, candidate, out),
@@ -66,9 +66,7 @@ fn print_border<K: Sink>(
     candidate: CandidateId,
     out: &mut K,
 ) -> Result<(), SinkFault>
-    ensures front { PutsFront (K.written out.old) (K.written out.new) (line (codes "breach border " ++ place_name labels.now candidate)) }
-    ensures whole { OnOk result (K.written out.new ≡ followed_by (K.written out.old) (line (codes "breach border " ++ place_name labels.now candidate))) }
-    ensures cause { OnErr result (Rose (K.faults out.old) (K.faults out.new)) }
+    ensures { Prints (K.shown out.old) (K.shown out.new) (line (codes "breach border " ++ place_name labels.now candidate)) result }
 {
     match labels.places.get(candidate.0 as usize) {
         Some(place) => print_place(labels, place, out),
@@ -76,10 +74,9 @@ fn print_border<K: Sink>(
     }
 }
 
+/// Prints where the kept border stands that the layout lacks.
 fn print_place<K: Sink>(labels: &Labels, place: &PlaceLabel, out: &mut K) -> Result<(), SinkFault>
-    ensures front { PutsFront (K.written out.old) (K.written out.new) (line (codes "breach border " ++ place_text labels.now (Some place.now))) }
-    ensures whole { OnOk result (K.written out.new ≡ followed_by (K.written out.old) (line (codes "breach border " ++ place_text labels.now (Some place.now)))) }
-    ensures cause { OnErr result (Rose (K.faults out.old) (K.faults out.new)) }
+    ensures { Prints (K.shown out.old) (K.shown out.new) (line (codes "breach border " ++ place_text labels.now (Some place.now))) result }
 {
     match place {
         PlaceLabel::Cut { track, at_m } => {
@@ -101,9 +98,7 @@ fn print_step<K: Sink>(
     number: u32,
     out: &mut K,
 ) -> Result<(), SinkFault>
-    ensures front { PutsFront (K.written out.old) (K.written out.new) (line (train_text labels.now kind.now train number)) }
-    ensures whole { OnOk result (K.written out.new ≡ followed_by (K.written out.old) (line (train_text labels.now kind.now train number))) }
-    ensures cause { OnErr result (Rose (K.faults out.old) (K.faults out.new)) }
+    ensures { Prints (K.shown out.old) (K.shown out.new) (line (train_text labels.now kind.now train number)) result }
 {
     let mut digits = Buffer::new();
     let number = digits.format(number).as_bytes();
@@ -122,9 +117,7 @@ fn print_apart<K: Sink>(
     f: CellId,
     out: &mut K,
 ) -> Result<(), SinkFault>
-    ensures front { PutsFront (K.written out.old) (K.written out.new) (line (apart_text labels.now a b step e f)) }
-    ensures whole { OnOk result (K.written out.new ≡ followed_by (K.written out.old) (line (apart_text labels.now a b step e f))) }
-    ensures cause { OnErr result (Rose (K.faults out.old) (K.faults out.new)) }
+    ensures { Prints (K.shown out.old) (K.shown out.new) (line (apart_text labels.now a b step e f)) result }
 {
     let mut step_digits = Buffer::new();
     let mut e_digits = Buffer::new();

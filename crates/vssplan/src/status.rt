@@ -1,7 +1,12 @@
-ghost use Rattle.std.specs.Prelude.{◌≡◌};
-ghost use Rattle.vssplan.specs.Inputs.{exit_status};
+//! How a call of the program ends.
 
-/// How a run ended.
+ghost use Rattle.std.specs.Prelude.{◌≡◌};
+ghost use Rattle.std.specs.Process.{exit_status};
+ghost use Rattle.vssplan.specs.Statuses.{number_of};
+
+use std::process::ExitCode;
+
+/// How a call ended.
 #[derive(Clone, Copy, Debug, PartialEq, Eq)]
 pub enum Status {
     /// The question is answered: a design, `lawful`, `proved`, made texts or a summary.
@@ -27,10 +32,17 @@ pub enum Status {
 }
 
 impl Status {
-    /// The exit status of the program.
+    /// The number of the status.
     pub fn number(self) -> u8
-        ensures { result ≡ exit_status self }
+        ensures { result ≡ number_of self }
     {
         self as u8
+    }
+
+    /// What the program ends with.
+    pub fn exit_code(self) -> ExitCode
+        ensures { exit_status result ≡ number_of self }
+    {
+        ExitCode::from(self.number())
     }
 }

@@ -1,3 +1,5 @@
+//! The words of the command line.
+
 ghost use Rattle.std.specs.Prelude.{◌≡◌, ◌≢◌, ◌↔◌, IsTrue, Some, MatchOption, map, string_bytes, slice_get};
 ghost use Rattle.vssplan.specs.Words.{FileNames as Names, IsFileName, AskToJudge};
 ghost use Rattle.vssplan.specs.FileNames.{names_in};
@@ -30,7 +32,7 @@ impl FileNames<'_> {
 fn is_file_name(word: &str) -> bool
     ensures { IsTrue result ↔ IsFileName word.now }
 {
-    word.as_bytes().first() != Some(&b'-')
+    word == "-" || word.as_bytes().first() != Some(&b'-')
 }
 
 /// The files of the task that the words ask for.

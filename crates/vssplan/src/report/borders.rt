@@ -3,7 +3,7 @@ ghost use Rattle.std.specs.List.{AllAdjacentBelow, flat_map};
 ghost use Rattle.vss_io.specs.Line.{line};
 ghost use Rattle.cell_net.specs.Labelled.{AreLabels};
 ghost use Rattle.cell_net.specs.declared.ids.CandidateId.{CandidateId};
-ghost use Rattle.vssplan.specs.Ends.{Lacks};
+ghost use Rattle.vssplan.specs.WordEnds.{Lacks};
 ghost use Rattle.vssplan.specs.PlaceNames.{name_text, IsShortName, IsPlainName, IsPlaceOf, IsFound};
 ghost use Rattle.vssplan.specs.PrintedNames.{cut_text, joint_text};
 ghost use Rattle.vssplan.specs.Report.{HasPlaceName, border_text};

@@ -1,7 +1,7 @@
 ghost use Rattle.std.specs.Prelude.{◌≡◌, ◌≢◌, ◌<◌, ◌^◌, ◌++◌, ◌↔◌, List, ℕ, [], decimal, IfSome, IfNone, IfOk, OnOk, OnErr, IsTrue, Ok, ◌∷◌};
 ghost use Rattle.std.specs.Char.{is_ascii_digit};
 ghost use Rattle.std.specs.List.{take_while};
-ghost use Rattle.vssplan.specs.Ends.{Lacks, BeginsWithNoDigit};
+ghost use Rattle.vssplan.specs.WordEnds.{Lacks, BeginsWithNoDigit};
 
 use super::number::{count_digits, number_of};
 use super::unread::Unread;

@@ -2,7 +2,7 @@ ghost use Rattle.std.specs.Prelude.{◌≡◌, ◌≢◌, ◌<◌, ◌^◌, ◌+
 ghost use Rattle.std.specs.List.{flat_map};
 ghost use Rattle.cell_net.specs.declared.plans.Sweep.{Sweep};
 ghost use Rattle.cell_net.specs.declared.plans.TrainRun.{TrainRun};
-ghost use Rattle.vssplan.specs.Ends.{BeginsWithNoSweep};
+ghost use Rattle.vssplan.specs.WordEnds.{BeginsWithNoSweep};
 ghost use Rattle.vssplan.specs.Report.{IsReportSweep, IsReportRun, sweep_text, start_text, run_text, runs_text};
 
 use super::cells::Cells;

@@ -17,11 +17,7 @@ pub struct LongShelf {
 }
 
 impl Shelf for LongShelf {
-    ghost tells = { λ _. false };
-
-    ghost file = { λ _ _. None };
-
-    ghost faults = { λ _ _. 0 };
+    ghost shown = { λ _. record { tells = false; file = λ _. None; faults = λ _. 0 } };
 
     fn read_file(&mut self, name: &str, max: u64) -> Result<Vec<u8>, ShelfFault> {
         self.readings = self.readings.saturating_add(1);

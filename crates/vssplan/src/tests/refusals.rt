@@ -64,9 +64,10 @@ fn a_file_that_can_not_be_read_is_told(rt: HostRuntime) -> Result<(), Fail> {
 }
 
 // The words, what is printed, and the status.
-static NAMES: [(&str, &str, u8); 6] = [
+static NAMES: [(&str, &str, u8); 7] = [
     ("judge ./-net times plan", "read fault network", 4),
     ("judge net time plan", "read fault timetable", 4),
+    ("judge net times -", "read fault report", 4),
     ("judge net times Plan", "read fault report", 4),
     (
         "judge times net plan",

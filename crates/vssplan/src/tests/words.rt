@@ -19,7 +19,7 @@ fn counting_shelf(alloc: Global) -> Result<LongShelf, AllocError> {
     })
 }
 
-static NOT_TAKEN: [&str; 14] = [
+static NOT_TAKEN: [&str; 13] = [
     "",
     "judge",
     "judge net times",
@@ -32,7 +32,6 @@ static NOT_TAKEN: [&str; 14] = [
     "judge -net times plan",
     "judge net -times plan",
     "judge net times -plan",
-    "judge net times -",
     "judge net times --budget 3",
 ];
 

@@ -1,74 +1,39 @@
+-- The line of each breach is the one that is printed.
 use Rattle.vssplan.specs.Texts.{breach_text}
 use Rattle.vssplan.proofs.breach.print_breach.Goals as goal
 
-pub returns-in-Border-clause-front : goal.returns-in-Border-clause-front
+pub returns-in-Border : goal.returns-in-Border
 unfolding breach_text
-returns-in-Border-clause-front g c = rw c.in-Border.is c.print_border.ensures.front
+returns-in-Border g c = rw c.in-Border.is c.print_border.ensures
 
-pub returns-in-Border-clause-whole : goal.returns-in-Border-clause-whole
+pub returns-in-Entry : goal.returns-in-Entry
 unfolding breach_text
-returns-in-Border-clause-whole g c = rw c.in-Border.is c.print_border.ensures.whole
+returns-in-Entry g c = rw (c.in-Entry.is, ← c.name_of_train.ensures) c.print_line.ensures
 
-pub returns-in-Entry-clause-front : goal.returns-in-Entry-clause-front
+pub returns-in-Path : goal.returns-in-Path
 unfolding breach_text
-returns-in-Entry-clause-front g c = rw (c.in-Entry.is, ← c.name_of_train.ensures) c.print_line.ensures.front
+returns-in-Path g c = rw c.in-Path.is c.print_step.ensures
 
-pub returns-in-Entry-clause-whole : goal.returns-in-Entry-clause-whole
+pub returns-in-Length : goal.returns-in-Length
 unfolding breach_text
-returns-in-Entry-clause-whole g c = rw (c.in-Entry.is, ← c.name_of_train.ensures) c.print_line.ensures.whole
+returns-in-Length g c = rw c.in-Length.is c.print_step-in-Length.ensures
 
-pub returns-in-Path-clause-front : goal.returns-in-Path-clause-front
+pub returns-in-Speed : goal.returns-in-Speed
 unfolding breach_text
-returns-in-Path-clause-front g c = rw c.in-Path.is c.print_step.ensures.front
+returns-in-Speed g c = rw c.in-Speed.is c.print_step-in-Speed.ensures
 
-pub returns-in-Path-clause-whole : goal.returns-in-Path-clause-whole
+pub returns-in-Join : goal.returns-in-Join
 unfolding breach_text
-returns-in-Path-clause-whole g c = rw c.in-Path.is c.print_step.ensures.whole
+returns-in-Join g c = rw c.in-Join.is c.print_step-in-Join.ensures
 
-pub returns-in-Length-clause-front : goal.returns-in-Length-clause-front
+pub returns-in-Late : goal.returns-in-Late
 unfolding breach_text
-returns-in-Length-clause-front g c = rw c.in-Length.is c.print_step-in-Length.ensures.front
+returns-in-Late g c = rw c.in-Late.is c.print_step-in-Late.ensures
 
-pub returns-in-Length-clause-whole : goal.returns-in-Length-clause-whole
+pub returns-in-Stop : goal.returns-in-Stop
 unfolding breach_text
-returns-in-Length-clause-whole g c = rw c.in-Length.is c.print_step-in-Length.ensures.whole
+returns-in-Stop g c = rw c.in-Stop.is c.print_step-in-Stop.ensures
 
-pub returns-in-Speed-clause-front : goal.returns-in-Speed-clause-front
+pub returns-in-Apart : goal.returns-in-Apart
 unfolding breach_text
-returns-in-Speed-clause-front g c = rw c.in-Speed.is c.print_step-in-Speed.ensures.front
-
-pub returns-in-Speed-clause-whole : goal.returns-in-Speed-clause-whole
-unfolding breach_text
-returns-in-Speed-clause-whole g c = rw c.in-Speed.is c.print_step-in-Speed.ensures.whole
-
-pub returns-in-Join-clause-front : goal.returns-in-Join-clause-front
-unfolding breach_text
-returns-in-Join-clause-front g c = rw c.in-Join.is c.print_step-in-Join.ensures.front
-
-pub returns-in-Join-clause-whole : goal.returns-in-Join-clause-whole
-unfolding breach_text
-returns-in-Join-clause-whole g c = rw c.in-Join.is c.print_step-in-Join.ensures.whole
-
-pub returns-in-Late-clause-front : goal.returns-in-Late-clause-front
-unfolding breach_text
-returns-in-Late-clause-front g c = rw c.in-Late.is c.print_step-in-Late.ensures.front
-
-pub returns-in-Late-clause-whole : goal.returns-in-Late-clause-whole
-unfolding breach_text
-returns-in-Late-clause-whole g c = rw c.in-Late.is c.print_step-in-Late.ensures.whole
-
-pub returns-in-Stop-clause-front : goal.returns-in-Stop-clause-front
-unfolding breach_text
-returns-in-Stop-clause-front g c = rw c.in-Stop.is c.print_step-in-Stop.ensures.front
-
-pub returns-in-Stop-clause-whole : goal.returns-in-Stop-clause-whole
-unfolding breach_text
-returns-in-Stop-clause-whole g c = rw c.in-Stop.is c.print_step-in-Stop.ensures.whole
-
-pub returns-in-Apart-clause-front : goal.returns-in-Apart-clause-front
-unfolding breach_text
-returns-in-Apart-clause-front g c = rw c.in-Apart.is c.print_apart.ensures.front
-
-pub returns-in-Apart-clause-whole : goal.returns-in-Apart-clause-whole
-unfolding breach_text
-returns-in-Apart-clause-whole g c = rw c.in-Apart.is c.print_apart.ensures.whole
+returns-in-Apart g c = rw c.in-Apart.is c.print_apart.ensures

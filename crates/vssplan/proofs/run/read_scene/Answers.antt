@@ -15,8 +15,8 @@ returns-in-Ok-Some-clause-scene g c =
       only = λ others named is_other. one_scene found.bytes c.in_ok-bytes.bytes.items _ others _ named scene is_other;
     }
 
-pub returns-in-Ok-None-clause-stop : goal.returns-in-Ok-None-clause-stop
-returns-in-Ok-None-clause-stop g c =
+pub returns-in-Ok-None-clause-early : goal.returns-in-Ok-None-clause-early
+returns-in-Ok-None-clause-early g c =
     let found = c.in_ok-network.ensures.network in
     let none = rw (c.in-Ok-None.field-0-is, c.as_slice.ensures.value) at (c.in-Ok-None.ensures found.bytes found.is_network) in
     record {

@@ -1,5 +1,5 @@
 use Rattle.std.proofs.Common.{◌≡◌, ◌<◌, ◌++◌, All, length, take}
-use Rattle.vssplan.specs.Ends.{BeginsWithNoSweep}
+use Rattle.vssplan.specs.WordEnds.{BeginsWithNoSweep}
 use Rattle.vssplan.specs.Report.{IsReportRun, runs_text}
 use Rattle.vssplan.proofs.report.runs.take_runs.Given as goal
 

@@ -1,6 +1,6 @@
 use Rattle.std.proofs.Common.{◌++◌, List, ℕ, sym, ap, ◌∙◌}
 use Rattle.std.specs.List.{flat_map}
-use Rattle.vssplan.specs.Ends.{BeginsWithNoSweep}
+use Rattle.vssplan.specs.WordEnds.{BeginsWithNoSweep}
 use Rattle.vssplan.specs.Report.{sweep_text}
 use Rattle.vssplan.proofs.Options.{held, lost, passed_on}
 use Rattle.vssplan.proofs.NoSweep.{no_next_sweep}

@@ -1,0 +1,6 @@
+pub mod FormulaLemmas
+pub mod FreshLaws
+pub mod HintOrder
+pub mod MarkLemmas
+pub mod PendingLemmas
+pub mod WorkLemmas
