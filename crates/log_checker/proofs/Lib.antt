@@ -5,5 +5,6 @@ mod EndLemmas
 mod HintLemmas
 mod LiveLemmas
 mod NumberLemmas
+mod OpenLemmas
 mod StoreLemmas
 mod VerdictLemmas

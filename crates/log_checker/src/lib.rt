@@ -18,4 +18,6 @@ pub use sat_core::StepFault;
 pub use verdict::{LogVerdict, check_log};
 
 #[cfg(test)]
+mod refutation_tests;
+#[cfg(test)]
 mod tests;
