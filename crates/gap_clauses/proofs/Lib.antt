@@ -1,0 +1,3 @@
+mod Shortening
+mod OrderLaws
+mod CandidateLaws
