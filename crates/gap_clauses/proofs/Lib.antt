@@ -1,3 +1,4 @@
 mod Shortening
 mod OrderLaws
 mod CandidateLaws
+mod TreeLemmas

@@ -3,5 +3,7 @@
 #![tactic(auto)]
 
 mod laws;
+mod tree;
 
 pub use laws::{separated_where_candidates_cut, separated_where_cut, walks_are_unique};
+pub use tree::{Branch, WalkTree};
