@@ -116,7 +116,7 @@ and-false false = refl
 elsewhere_pending : (marks : List Bool) (level : ℕ) (e : Entry) → e.level ≢ level → is_pending marks level e ≡ false
 elsewhere_pending marks level e apart = ap (λ b. get_or marks (index_of e) false && b) (apart-eqb e.level level apart) ∙ and-false (get_or marks (index_of e) false)
 
-here_pending : (marks : List Bool) (level : ℕ) (e : Entry) → get_or marks (index_of e) false ≡ true → e.level ≡ level → is_pending marks level e ≡ true
+pub here_pending : (marks : List Bool) (level : ℕ) (e : Entry) → get_or marks (index_of e) false ≡ true → e.level ≡ level → is_pending marks level e ≡ true
 here_pending marks level e marked at = ap (λ b. b && nat_eq e.level level) marked ∙ eq-eqb e.level level at
 
 pub work_pass : (live : List NumberedClause) (t : TrailParts) (place : ℕ) (marks : List Bool) (open_count level : ℕ) (cut : List Lit) (hints : List ClauseId) (d : Entry) → place < length t.entries → get_or marks (index_of (get_or t.entries place d)) false ≡ false → IsWorking live t (place + 1) marks open_count level cut hints → IsWorking live t place marks open_count level cut hints
@@ -173,7 +173,7 @@ work_keep_present live t place marks open_count level cut hints d laws within ma
               | inr some ↦ omega arith
               | inl none ↦ absurd (elim keeps [
                 | inl decision ↦ omega (arith, laws.decided_above_zero place d within decision)
-                | inr high ↦ omega (arith, high.0)
+                | inr high ↦ omega (arith, (high at).0)
               ])
             ] in
             let last : pending t.entries marks t.present place ≡ 0 = elim (cases_eq (pending t.entries marks t.present place) 0) [
@@ -182,7 +182,7 @@ work_keep_present live t place marks open_count level cut hints d laws within ma
                   let other = pending-find t.entries marks t.present place (omega arith) in
                   absurd (elim keeps [
                     | inl decision ↦ omega (arith, laws.decisions_begin other.0 place d other.1 within decision, (other.3 d).1)
-                    | inr few ↦ omega (arith, few.1 at)
+                    | inr few ↦ omega (arith, (few at).1)
                   ])
             ] in
             inr (record {
@@ -384,7 +384,7 @@ place_assigned live t place lit at =
     let d : Entry = record { lit = lit; reason = None; level = 0 } in
     (subst (IsOver t.vars) (at.here d) (at.laws.in_range place d at.within), (place, get_or t.entries place d, at.within, get_or_default t.entries place (get_or t.entries place d) d at.within, ap (λ l. l.var.0) (at.here d)))
 
-no_entry : Entry
+pub no_entry : Entry
 no_entry = record { lit = record { var = record { 0 = 0 }; positive = true }; reason = None; level = 0 }
 
 pub clause_over : (live : List NumberedClause) (t : TrailParts) (id : ClauseId) (lits : List Lit) → All (λ c. IsClause t.vars c.lits) live → clause_of live id ≡ Some lits → IsClause t.vars lits

@@ -2,8 +2,9 @@
 use Rattle.std.specs.Prelude.{◌≡◌, ◌≢◌, ◌⊎◌, ℕ, ◌+◌, ◌-◌, ◌<◌, ◌≤◌, Bool, true, false, ◌&&◌, nat_eq, List, [], length, take, reverse, All, Any, count_by, Some, None, slice_index_or}
 use Rattle.sat_core.specs.declared.literal.Lit.{Lit}
 use Rattle.sat_core.specs.declared.literal.ClauseId.{ClauseId}
+use Rattle.sat_core.specs.declared.literal.Var.{Var}
 use Rattle.sat_core.specs.Clauses.{negated, IsOver, IsClause}
-use Rattle.sat_core.specs.Hints.{NumberedClause, is_known, hints_fault}
+use Rattle.sat_core.specs.Hints.{NumberedClause, clause_of, is_known, hints_fault}
 use Rattle.conflict_learn.specs.declared.learning.Work.{Work}
 use Rattle.search_trail.specs.declared.entry.Entry.{Entry}
 use Rattle.search_trail.specs.Trails.{TrailParts, IsTrail, known_of}
@@ -75,7 +76,7 @@ pub record MarksOf (t : TrailParts) (old new : List Bool) (lits : List Lit) (fou
 
 -- an entry that has to be kept if it is the last of the present level, and one that may be resolved
 abbrev pub IsKeptBack : ℕ → ℕ → Entry → Type 0
-IsKeptBack present open_count e = (e.reason ≡ None) ⊎ ((0 < e.level) × (e.level ≡ present → open_count ≤ 1))
+IsKeptBack present open_count e = (e.reason ≡ None) ⊎ (e.level ≡ present → (0 < e.level) × (open_count ≤ 1))
 
 abbrev pub IsResolved : ℕ → ℕ → ClauseId → Entry → Type 0
 IsResolved present open_count id e = (e.reason ≡ Some id) × (0 < present → e.level ≡ present → 1 < open_count)
@@ -95,3 +96,21 @@ pub record IsPlace (live : List NumberedClause) (t : TrailParts) (place : ℕ) (
   pub reasons : AreReasons live t.entries
   pub within : place < length t.entries
   pub here : (d : Entry) → (slice_index_or t.entries place d).lit ≡ lit
+
+-- the number is in the list
+abbrev pub IsListed : List ℕ → ℕ → Type 0
+IsListed places k = (j : ℕ) × (j < length places) × ((d : ℕ) → slice_index_or places j d ≡ k)
+
+-- one of the first variables, so many, is that of the entry at the place
+abbrev pub IsTouchedAt : List Entry → List Var → ℕ → ℕ → Type 0
+IsTouchedAt entries touched many k = (j : ℕ) × (j < many) × ((d : Var) (e : Entry) → (slice_index_or entries k e).lit.var.0 ≡ (slice_index_or touched j d).0)
+
+-- the variables of all these literals are marked
+abbrev pub AreAllMarked : List Bool → List Lit → Type 0
+AreAllMarked marks lits = All (λ lit. slice_index_or marks (lit.var.0 - 1) false ≡ true) lits
+
+-- the clause is live, and all its variables are marked
+pub record IsImplied (live : List NumberedClause) (marks : List Bool) (id : ClauseId) : Type 0 where
+  pub lits : List Lit
+  pub stands : clause_of live id ≡ Some lits
+  pub marked : AreAllMarked marks lits

@@ -1,5 +1,5 @@
-//! From the conflict down the trail to the first unique implication point, and on to the literals that the others imply.
-ghost use Rattle.std.specs.Prelude.{◌≡◌, ℕ, ◌+◌, ◌-◌, ◌<◌, ◌≤◌, All, Any, IfOk, OnOk, length, reverse, true, false, Some, None, slice_index_or};
+//! From the conflict down the trail of the present level to the first unique implication point.
+ghost use Rattle.std.specs.Prelude.{◌≡◌, ℕ, ◌+◌, ◌-◌, ◌<◌, ◌≤◌, All, IfOk, OnOk, length, reverse, true, false, Some, None, slice_index_or};
 ghost use Rattle.sat_core.specs.Clauses.{IsClause, IsOver};
 ghost use Rattle.sat_core.specs.declared.literal.ClauseId.{ClauseId};
 ghost use Rattle.search_trail.specs.Reasons.{AreReasons};
@@ -9,6 +9,7 @@ ghost use Rattle.conflict_learn.specs.Working.{IsWorkingOn, IsKeptBack, IsResolv
 
 use crate::clauses::Clauses;
 use crate::learned::Learned;
+use crate::lower::settle_lower;
 use crate::marking::mark_all;
 use crate::marks::Marks;
 use sat_core::{ClauseId, Lit};
@@ -27,13 +28,14 @@ pub(crate) struct Work {
     pub(crate) hints: SmallVec<ClauseId, 16>,
 }
 
-/// Learns from a false clause, with marks of which none is set at first.
+/// Learns from a false clause, with marks of which none is set at first. `places` is room to work in.
 pub(crate) fn descend<C: Clauses>(
     alloc: Global,
     trail: &Trail,
     clauses: &C,
     conflict: ClauseId,
     marks: &mut Marks,
+    places: &mut Vec<u32>,
 ) -> Result<Learned, AllocError>
     requires long { length marks.old ≡ trail.now.vars }
     requires clear { (n : ℕ) → slice_index_or marks.old n false ≡ false }
@@ -45,13 +47,14 @@ pub(crate) fn descend<C: Clauses>(
 {
     let mut work = start(alloc, trail, clauses, conflict, marks)?;
     let mut place = trail.len();
-    'places: while place > 0 {
+    'places: while work.unresolved > 0 {
         place -= 1;
         let lit = trail.at(place);
         if marks.is_marked(lit.var) {
             settle(trail, clauses, marks, &mut work, lit, place)?;
         }
     }
+    settle_lower(trail, clauses, marks, places, &mut work, place)?;
     Ok(finish(work))
 }
 
@@ -102,53 +105,25 @@ fn settle<C: Clauses>(
     ensures long { length marks.new ≡ length marks.old }
     ensures working { OnOk result (IsWorkingOn (C.live clauses.now) trail.now place marks.new work.new) }
 {
-    match resolving(trail, clauses, marks, lit, work.unresolved) {
+    match resolving(trail, lit, work.unresolved) {
         Some(id) => resolve(trail, clauses, marks, work, lit, place, id),
         None => keep(trail, clauses, marks, work, lit, place),
     }
 }
 
-/// The reason of a marked literal, where it is to be resolved: at level 0, at the present level while others of it are
-/// left, and where the clause's other literals imply it.
-fn resolving<C: Clauses>(
-    trail: &Trail,
-    clauses: &C,
-    marks: &Marks,
-    lit: Lit,
-    unresolved: u32,
-) -> Option<ClauseId>
-    requires over { All (λ clause. IsClause trail.now.vars clause.lits) (C.live clauses.now) }
-    requires long { length marks.now ≡ trail.now.vars }
+/// The reason of a marked literal of the present level, where it is to be resolved: always at level 0, and above it while
+/// other marked ones are left.
+fn resolving(trail: &Trail, lit: Lit, unresolved: u32) -> Option<ClauseId>
     requires assigned { IsAssigned trail.now lit }
     ensures kept { result ≡ None → All (λ e. e.lit.var.0 ≡ lit.var.0 → IsKeptBack trail.now.present unresolved e) trail.now.entries }
     ensures resolved { (id : ClauseId) → result ≡ Some id → All (λ e. e.lit.var.0 ≡ lit.var.0 → IsResolved trail.now.present unresolved id e) trail.now.entries }
 {
     let level = trail.level(lit.var);
     let reason = trail.reason(lit.var);
-    if level == 0 || level == trail.now() && unresolved > 1 {
+    if level == trail.now() && (level == 0 || unresolved > 1) {
         return reason;
     }
-    match reason {
-        Some(id) if level != trail.now() && adds_nothing(clauses, marks, id) => Some(id),
-        _ => None,
-    }
-}
-
-/// Whether all variables of a clause are marked.
-fn adds_nothing<C: Clauses>(clauses: &C, marks: &Marks, id: ClauseId) -> bool
-    requires { All (λ clause. IsClause (length marks.now) clause.lits) (C.live clauses.now) }
-{
-    match clauses.lits(id) {
-        None => false,
-        Some(lits) => are_marked(marks, lits),
-    }
-}
-
-/// Whether the variables of all these literals are marked.
-fn are_marked(marks: &Marks, lits: &[Lit]) -> bool
-    requires { All (IsOver (length marks.now)) lits.now }
-{
-    lits.iter().all(|lit| marks.is_marked(lit.var))
+    None
 }
 
 /// A marked literal is resolved: the other literals of its reason are marked in its place.

@@ -6,6 +6,7 @@ mod clauses;
 mod formula;
 mod learned;
 mod learning;
+mod lower;
 mod marking;
 mod marks;
 mod space;

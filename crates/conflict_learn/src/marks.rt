@@ -42,6 +42,14 @@ impl Marks {
         self.flags[var.0 as usize - 1]
     }
 
+    /// The marked variables, in the order in which they were marked.
+    pub(crate) fn touched(&self) -> &[Var]
+        ensures in_range { All (λ v. (1 ≤ v.0) × (v.0 ≤ length self.now)) result.now }
+        ensures among { AreAmong self.now result.now }
+    {
+        self.touched.as_slice()
+    }
+
     /// Marks a variable.
     pub(crate) fn mark(&mut self, var: Var)
         requires in_range { (1 ≤ var.0) × (var.0 ≤ length self.old) }

@@ -18,6 +18,8 @@ use std::marker::Model;
 #[derive(Drop)]
 pub struct LearnSpace {
     marks: Marks,
+    // room to work in
+    places: Vec<u32>,
 }
 
 impl Model for LearnSpace {
@@ -31,12 +33,13 @@ impl Model for LearnSpace {
 }
 
 impl LearnSpace {
-    /// A space for trails over the variables 1 to `vars`: five bytes a variable. Want of memory stands alone.
+    /// A space for trails over the variables 1 to `vars`: nine bytes a variable. Want of memory stands alone.
     pub fn new(alloc: Global, vars: u32) -> Result<LearnSpace, AllocError>
         ensures vars { IfOk result (λ space. space ≡ vars) }
     {
         Ok(LearnSpace {
             marks: Marks::new(alloc, vars)?,
+            places: Vec::with_capacity(alloc, vars as usize)?,
         })
     }
 
@@ -54,7 +57,14 @@ impl LearnSpace {
         ensures space { self.new ≡ self.old }
         ensures learned { IfOk result (λ learned. IsLearnedFrom (C.live clauses.now) trail.now learned.lits.items learned.hints.items learned.level) }
     {
-        let learned = descend(alloc, trail, clauses, conflict, &mut self.marks);
+        let learned = descend(
+            alloc,
+            trail,
+            clauses,
+            conflict,
+            &mut self.marks,
+            &mut self.places,
+        );
         self.marks.clear();
         learned
     }

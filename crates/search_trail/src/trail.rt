@@ -1,5 +1,5 @@
 //! The trail, and its calls.
-ghost use Rattle.std.specs.Prelude.{◌≡◌, ◌+◌, ◌-◌, ◌*◌, ◌<◌, ◌≤◌, [], ◌∷◌, ◌++◌, length, IfOk, IfSome, IfNone, Any, All, slice_index_or, min, ◌≢◌, None};
+ghost use Rattle.std.specs.Prelude.{◌≡◌, ◌+◌, ◌-◌, ◌*◌, ◌<◌, ◌≤◌, [], ◌∷◌, ◌++◌, length, IfOk, IfSome, IfNone, Any, All, slice_index_or, min, ◌≢◌, None, MatchOption};
 ghost use Rattle.sat_core.specs.Clauses.{IsOver};
 ghost use Rattle.sat_core.specs.Fresh.{IsOpen};
 ghost use Rattle.sat_core.specs.Hints.{is_known};
@@ -120,6 +120,18 @@ impl Trail {
         ensures value { (d : Entry) → (slice_index_or self.now.entries place d).lit ≡ result }
     {
         self.entries[place as usize].lit
+    }
+
+    /// The place of the variable's literal, counted from 0; none where the variable is open. In constant time.
+    pub fn place(&self, var: Var) -> Option<u32>
+        requires in_range { (1 ≤ var.0) × (var.0 ≤ self.now.vars) }
+        ensures value { MatchOption result (All (λ e. e.lit.var.0 ≢ var.0) self.now.entries) (λ place. (place < length self.now.entries) × ((d : Entry) → (slice_index_or self.now.entries place d).lit.var.0 ≡ var.0)) }
+    {
+        let place = self.places[var.0 as usize - 1];
+        match self.entries.get(place as usize) {
+            Some(entry) if entry.lit.var.0 == var.0 => Some(place),
+            _ => None,
+        }
     }
 
     /// The clause that forced the variable's literal; none where it was decided, and where it is open.

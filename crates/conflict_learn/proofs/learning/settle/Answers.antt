@@ -3,7 +3,7 @@ use Rattle.conflict_learn.proofs.WorkLemmas.{place_assigned}
 use Rattle.conflict_learn.proofs.learning.settle.Goals as goal
 
 pub resolving-requires : goal.resolving-requires
-resolving-requires g c = record { over = c.requires.place.over; long = c.requires.working.long; assigned = place_assigned (g.C.Clauses.live c.args.clauses.now) c.args.trail.now c.args.place c.args.lit c.requires.place }
+resolving-requires g c = record { assigned = place_assigned (g.C.Clauses.live c.args.clauses.now) c.args.trail.now c.args.place c.args.lit c.requires.place }
 
 pub resolve-requires-clause-resolved : goal.resolve-requires-clause-resolved
 resolve-requires-clause-resolved g c = c.in-Some.ensures.resolved c.in-Some.id refl
