@@ -10,7 +10,7 @@ mod values;
 
 pub use document::{Json, json_of};
 pub use fault::{ShapeFault, WalkFault};
-pub use lists::{Part, list, optional_list};
+pub use lists::{Reader, list, optional_list};
 pub use members::{number, object, optional_flag, optional_number, text};
 pub use text_lists::{TextPairs, pairs, texts};
 pub use values::{has_member, text_at};

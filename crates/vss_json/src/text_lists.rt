@@ -19,11 +19,15 @@ pub fn texts<M: Copy + Drop>(
     fault: ShapeFault<M>,
 ) -> Result<Items<Text>, WalkFault<M>>
     ensures read { Gives (texts_reading fault name.now (json_of object.now)) result }
+    ensures some { IfOk result (λ items. 0 < length items) }
     ensures few { IfOk result (λ items. length items < 2 ^ 32) }
 {
     match object.get(name).and_then(items_of) {
         None | Some([]) => Err(WalkFault::Shape(fault)),
-        Some(values) => each_text(alloc, values, fault),
+        Some(values) => match each_text(alloc, values, fault) {
+            Ok(texts) => Ok(texts),
+            Err(fault) => Err(fault),
+        },
     }
 }
 
@@ -34,6 +38,7 @@ fn each_text<M: Copy + Drop>(
     fault: ShapeFault<M>,
 ) -> Result<Items<Text>, WalkFault<M>>
     ensures read { Gives (each_text_reading fault (map json_of values.now)) result }
+    ensures len { IfOk result (λ items. length items ≡ length values.now) }
     ensures few { IfOk result (λ items. length items < 2 ^ 32) }
 {
     let Ok(count) = u32::try_from(values.len()) else {

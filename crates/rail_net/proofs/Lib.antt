@@ -1,0 +1,9 @@
+pub mod ListLemmas
+pub mod NameLemmas
+pub mod EntryLemmas
+pub mod OrderLemmas
+pub mod ListingLemmas
+pub mod ZipLemmas
+pub mod NodeLemmas
+pub mod SectionLemmas
+pub mod RuleLemmas

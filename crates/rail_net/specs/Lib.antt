@@ -1,0 +1,9 @@
+pub mod Parts
+pub mod Breaks
+pub mod Entries
+pub mod Rules
+pub mod Sections
+pub mod Borders
+pub mod Refusals
+pub mod Passages
+pub mod Tables
