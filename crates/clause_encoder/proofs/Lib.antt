@@ -1,0 +1,4 @@
+pub mod WritingLemmas
+pub mod WriterLemmas
+pub mod MarkLemmas
+pub mod GatherLemmas
