@@ -23,7 +23,6 @@ map_below_none test = refl
 pub pushed_more : (test : ℕ → Bool) (n : ℕ) (old new : List Bool) (b : Bool) → old ≡ map test (from_below 0 n) → new ≡ old ++ b ∷ [] → b ≡ test n → new ≡ map test (from_below 0 (n + 1))
 pushed_more test n old new b before this same = this ∙ ap (λ xs. xs ++ b ∷ []) before ∙ ap (λ c. map test (from_below 0 n) ++ c ∷ []) same ∙ sym (map_below_more test n)
 
-
 map_take : (bs : List Bool) (n : ℕ) → n ≤ length bs → map (λ w. get_or bs w false) (from_below 0 n) ≡ take n bs
 map_take bs zero within = map_below_none (λ w. get_or bs w false)
 map_take bs (suc n) within =

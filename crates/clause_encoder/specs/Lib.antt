@@ -11,3 +11,6 @@ pub mod Example
 pub mod RunExample
 pub mod Writing
 pub mod Gathering
+pub mod Values
+pub mod Orders
+pub mod Rows

@@ -71,9 +71,7 @@ fn is_home<M: Moves>(inst: &Instance, table: &M, marks: &[bool], item: u32) -> b
 fn is_any_marked(marks: &[bool], items: &[SweepId]) -> bool
     ensures { result ≡ has_marked marks.now items.now }
 {
-    items
-        .iter()
-        .any(|item| marks.get(item.0 as usize).copied().unwrap_or(false))
+    items.iter().any(|item| marks.get(item.0 as usize).copied().unwrap_or(false))
 }
 
 /// The marks of the entries.
