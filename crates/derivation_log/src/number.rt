@@ -1,5 +1,5 @@
 //! Numbers of a log: 1 to 999,999,999, without a leading zero, and the blank behind each.
-ghost use Rattle.std.specs.Prelude.{◌≡◌, ◌<◌, ◌↔◌, ◌∷◌, ◌++◌, [], decimal, slice_index, IfOk, IfErr, IsTrue};
+ghost use Rattle.std.specs.Prelude.{◌≡◌, ◌∷◌, ◌++◌, [], decimal, IfOk, IfErr};
 ghost use Rattle.vss_io.specs.Written.{PrintsAllBut};
 ghost use Rattle.vss_text.specs.Reading.{Misses};
 ghost use Rattle.vss_text.specs.Numbers.{ended};
@@ -7,7 +7,7 @@ ghost use Rattle.derivation_log.specs.Text.{IsLogNumber};
 
 use itoa::Buffer;
 use vss_io::{LineBuf, Sink, SinkFault};
-use vss_text::Miss;
+use vss_text::{Miss, begins_with};
 
 /// The number at the front of the text, and what follows the blank behind it.
 pub(crate) fn number(text: &[u8]) -> Result<(u32, &[u8]), Miss>
@@ -21,17 +21,6 @@ pub(crate) fn number(text: &[u8]) -> Result<(u32, &[u8]), Miss>
     match vss_text::number(text, b' ') {
         Ok((value, rest)) => Ok((value, rest)),
         Err(miss) => Err(miss),
-    }
-}
-
-/// Whether the byte, which isn't 0, is the first of the text.
-pub(crate) fn begins_with(text: &[u8], byte: u8) -> bool
-    requires { 0 < byte }
-    ensures { IsTrue result ↔ (slice_index text.now 0 ≡ byte) }
-{
-    match text.first() {
-        Some(first) => *first == byte,
-        None => false,
     }
 }
 

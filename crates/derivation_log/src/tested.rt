@@ -1,14 +1,11 @@
 //! Steps at the front of a text, tested without memory.
-ghost use Rattle.std.specs.Prelude.{◌≡◌, ◌↔◌, ℕ, List, IfOk, IfErr, IsTrue, slice_index};
-ghost use Rattle.vss_text.specs.Reading.{Misses};
-ghost use Rattle.derivation_log.specs.Text.{step_text, IsInRange};
+ghost use Rattle.std.specs.Prelude.{◌≡◌, IfOk};
+ghost use Rattle.derivation_log.specs.Text.{IsInRange};
 
-use crate::list::{ListText, read_list, test_list};
-use crate::number::{begins_with, number};
+use crate::list::{ListText, read_list};
 use crate::step::Step;
 use sat_core::{ClauseId, Lit};
 use std::alloc::{AllocError, Global};
-use vss_text::{Miss, after};
 
 /// The text of a step that is well formed.
 #[derive(Clone, Copy, Debug)]

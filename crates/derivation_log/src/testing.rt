@@ -5,10 +5,10 @@ ghost use Rattle.derivation_log.specs.Text.{step_text, IsInRange};
 ghost use Rattle.derivation_log.specs.Tested.{BeginsWithStep, IsFrontOfStep};
 
 use crate::list::test_list;
-use crate::number::{begins_with, number};
+use crate::number::number;
 use crate::tested::StepText;
 use sat_core::{ClauseId, Lit};
-use vss_text::{Miss, after};
+use vss_text::{Miss, after, begins_with};
 
 /// The step at the front of the text, and what follows it. One pass, without memory.
 pub fn test_step(text: &[u8]) -> Result<(StepText<'_>, &[u8]), Miss>

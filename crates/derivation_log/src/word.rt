@@ -4,10 +4,10 @@ ghost use Rattle.vss_io.specs.Written.{PrintsAllBut};
 ghost use Rattle.vss_text.specs.Reading.{Misses};
 ghost use Rattle.derivation_log.specs.Text.{blanked};
 
-use crate::number::{add_number, begins_with, number};
+use crate::number::{add_number, number};
 use sat_core::{ClauseId, Lit, Var};
 use vss_io::{LineBuf, Sink, SinkFault};
-use vss_text::Miss;
+use vss_text::{Miss, begins_with};
 
 /// A word of a list, which is read with the blank behind it.
 pub(crate) trait Word: Sized + Drop {

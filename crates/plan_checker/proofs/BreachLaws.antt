@@ -4,7 +4,6 @@ use Rattle.std.proofs.lemmas.Option.{same_Some}
 use Rattle.vss_lists.proofs.OrderLaws.{AreSound, IsSound, not_kept, one_broken, one_place, sound_each, sound_rule, sound_rules}
 use Rattle.cell_net.specs.Plans.{IsLawful}
 use Rattle.cell_net.specs.declared.ids.CandidateId.{CandidateId}
-use Rattle.cell_net.specs.declared.ids.CellId.{CellId}
 use Rattle.cell_net.specs.declared.ids.TrainId.{TrainId}
 use Rattle.cell_net.specs.declared.plans.Plan.{Plan}
 use Rattle.cell_net.specs.declared.plans.TrainRun.{TrainRun}
@@ -14,7 +13,6 @@ use Rattle.plan_checker.specs.Laws.{HasOneFirstBreach}
 use Rattle.plan_checker.specs.RunRules.{rules_of_run}
 use Rattle.plan_checker.specs.Verdicts.{IsFirstBreach, IsHeld, rule_of_clashes, rule_of_kept, rules_of_plan}
 use Rattle.plan_checker.specs.declared.breach.Breach.{Breach}
-use Rattle.plan_checker.specs.declared.breach.Breach.TheVariants as Breaches
 use Rattle.plan_checker.proofs.ClashLaws.{not_apart, one_pair, one_pair_of_cells, one_step}
 use Rattle.plan_checker.proofs.JudgingLemmas.{rules_kept}
 

@@ -2,10 +2,9 @@
 use Rattle.std.proofs.Common.{◌≡◌, ◌<◌, ◌+◌, inl, inr, ℕ, zero, suc, List, [], ◌∷◌, length, All, AllPairs, Some, slice_get, slice_index_or, Contains, refl, sym, ap, subst, ◌∙◌, below_more, arith}
 use Rattle.std.specs.List.{AllZip, zip}
 use Rattle.std.proofs.lemmas.Option.{slice_get_cases, slice_get_within, slice_get-get_or, get_or_from_slice_get, same_Some}
-use Rattle.std.proofs.lemmas.List.Elements.{All-contains}
-use Rattle.vss_lists.specs.Breaks.{HoldsBelow, HoldsOfEach}
+use Rattle.vss_lists.specs.Breaks.{HoldsOfEach}
 use Rattle.vss_lists.specs.Orders.{AreKept, IsFirstBroken}
-use Rattle.cell_net.specs.Borders.{IsBorderSet, IsLayout, Linked}
+use Rattle.cell_net.specs.Borders.{IsBorderSet, IsLayout}
 use Rattle.cell_net.specs.Runs.{Arrives, Enters, IsRun, IsSweep, IsMet, Continues}
 use Rattle.cell_net.specs.Plans.{AreApart, IsLawful}
 use Rattle.cell_net.specs.declared.ids.CandidateId.{CandidateId}

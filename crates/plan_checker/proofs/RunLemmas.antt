@@ -1,5 +1,5 @@
 -- On the breaches of sweeps.
-use Rattle.std.proofs.Common.{◌≡◌, ◌+◌, ℕ, zero, suc, ap}
+use Rattle.std.proofs.Common.{◌+◌, ℕ, zero, suc, ap}
 use Rattle.vss_lists.specs.Orders.{AreKept, IsFirstBroken}
 use Rattle.cell_net.specs.Runs.{IsSweep}
 use Rattle.cell_net.specs.declared.ids.TrainId.{TrainId}

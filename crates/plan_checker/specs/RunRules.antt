@@ -1,6 +1,5 @@
 -- The rules of a run of a train, in the judge's order, and the breach that tells each.
 use Rattle.std.specs.Prelude.{◌≡◌, ◌+◌, ◌-◌, ◌++◌, ℕ, List, [], ◌∷◌, length, Some, slice_get}
-use Rattle.vss_lists.specs.Breaks.{HoldsOfEach, BreaksFirstAt}
 use Rattle.vss_lists.specs.Orders.{OrderRule, rule, rule_of_each, rules_of_each}
 use Rattle.cell_net.specs.Runs.{Continues, Enters, Arrives, IsMet}
 use Rattle.cell_net.specs.declared.ids.TrainId.{TrainId}

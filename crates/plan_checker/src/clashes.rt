@@ -1,14 +1,15 @@
 //! The first clash of two trains, step by step.
 
-ghost use Rattle.std.specs.Prelude.{◌≡◌, ◌<◌, IfOk, MatchOption, length, ℕ};
+ghost use Rattle.std.specs.Prelude.{◌≡◌, ◌+◌, ◌<◌, IfOk, MatchOption, length, ℕ};
 ghost use Rattle.std.specs.List.{AllZip};
 ghost use Rattle.cell_net.specs.Runs.{IsRun};
 ghost use Rattle.layout_rules.specs.Classes.{AreClasses};
 ghost use Rattle.plan_checker.specs.Clashes.{AreApartAt, IsFirstClash};
+ghost use Rattle.plan_checker.specs.ClassMarks.{AreEarlier};
 ghost use Rattle.plan_checker.specs.ClashSearch.{AreAllApart, AreApart, IsFirstClashAt, IsSound};
 
 use crate::clash::Clash;
-use crate::marks::{Mark, are_clearly_apart, no_marks};
+use crate::marks::{Mark, are_all_apart, no_marks};
 use crate::pairs::first_clash_at;
 use crate::traffic::Traffic;
 use cell_net::{Instance, Layout, Plan};
@@ -45,6 +46,7 @@ pub(crate) fn first_clash(
 fn first_clash_in(traffic: &Traffic, marks: &mut [Option<Mark>]) -> Option<Clash>
     requires sound { IsSound traffic.now }
     requires marks { length marks.old ≡ length traffic.now.inst.now.cells }
+    requires none { AreEarlier 0 marks.old }
     ensures { MatchOption result
         ((step x y : ℕ) → x < y → AreApart traffic.now step x y)
         (λ k. IsFirstClash traffic.now.inst.now traffic.now.layout.now traffic.now.runs.now k.a.0 k.b.0 k.step k.e k.f) }
@@ -58,14 +60,15 @@ fn first_clash_in(traffic: &Traffic, marks: &mut [Option<Mark>]) -> Option<Clash
     None
 }
 
-/// The clash of the first pair of trains at the step. Compares pairs only where the marks don't show
-/// that there is none.
+/// The clash of the first pair of trains at the step. Compares pairs only where two trains aren't apart.
 fn clash_at(traffic: &Traffic, step: u32, marks: &mut [Option<Mark>]) -> Option<Clash>
     requires sound { IsSound traffic.now }
     requires marks { length marks.old ≡ length traffic.now.inst.now.cells }
-    ensures { MatchOption result (AreAllApart traffic.now step) (IsFirstClashAt traffic.now step) }
+    requires earlier { AreEarlier step marks.old }
+    ensures clash { MatchOption result (AreAllApart traffic.now step) (IsFirstClashAt traffic.now step) }
+    ensures earlier { AreEarlier (step + 1) marks.new }
 {
-    if are_clearly_apart(traffic, step, marks) {
+    if are_all_apart(traffic, step, marks) {
         return None;
     }
     first_clash_at(traffic, step)

@@ -8,14 +8,14 @@ use Rattle.sat_core.specs.declared.literal.ClauseId.{ClauseId}
 use Rattle.sat_core.specs.Clauses.{IsTrueIn, SatisfiesAll}
 use Rattle.sat_core.specs.Derivation.{DerivedStep, adds, drops}
 use Rattle.sat_core.specs.Search.{Event, gives, derives, search_of, IsLearned, IsDropped, IsNext, AreNext, log_of, units_of, adds_in}
-use Rattle.sat_core.proofs.SearchLaws.{AreNext-append, adds_in-append, adds_searched}
+use Rattle.sat_core.proofs.SearchLaws.{AreNext-append, adds_in-append, adds_searched, units_searched}
 use Rattle.solver_face.specs.Solving.{Solving, IsSound, search_now, taken, ShowsSolution, BeginsWithNoDrop, Searched}
 
 -- nothing is derived yet
 pub searched_none : (s : Solving) (had : ℕ) → IsSound s → Searched s s had had
 searched_none s had sound = record { same_vars = refl; same_formula = refl; steps = []; begins = tt; grew = sym (append-nil s.events); spent = omega arith; sound = sound }
 
-sound_more : (now later : Solving) (event : Event) → IsSound now → IsNext (search_now now) event → later.vars ≡ now.vars → later.formula ≡ now.formula → later.events ≡ now.events ++ event ∷ [] → IsSound later
+pub sound_more : (now later : Solving) (event : Event) → IsSound now → IsNext (search_now now) event → later.vars ≡ now.vars → later.formula ≡ now.formula → later.events ≡ now.events ++ event ∷ [] → IsSound later
 sound_more now later event sound next vars formula grew = record {
   events =
       subst (λ (e : List Event). AreNext (search_of later.vars later.formula) e) (sym grew)
@@ -49,6 +49,23 @@ searched_add before now later had left id lits hints was learned vars formula gr
   grew = grew_more before.events now.events later.events was.steps (adds id lits hints) was.grew grew;
   spent = let more : adds_in (was.steps ++ adds id lits hints ∷ []) ≡ adds_in was.steps + 1 = adds_in-append was.steps (adds id lits hints ∷ []) in let spent : left + 1 + adds_in was.steps ≡ had = was.spent in omega arith;
   sound = sound_more now later (derives (adds id lits hints)) was.sound learned vars formula grew;
+}
+
+begins_on : (one other : List DerivedStep) → BeginsWithNoDrop one → BeginsWithNoDrop other → BeginsWithNoDrop (one ++ other)
+begins_on [] other first second = second
+begins_on (adds id lits hints ∷ one) other first second = tt
+begins_on (drops ids ∷ one) other first second = absurd first
+
+-- one search after another is one
+pub searched_on : (first now later : Solving) (had some left : ℕ) → Searched first now had some → Searched now later some left → Searched first later had left
+searched_on first now later had some left one two = record {
+  same_vars = two.same_vars ∙ one.same_vars;
+  same_formula = two.same_formula ∙ one.same_formula;
+  steps = one.steps ++ two.steps;
+  begins = begins_on one.steps two.steps one.begins two.begins;
+  grew = two.grew ∙ (ap (λ (e : List Event). e ++ map derives two.steps) one.grew ∙ (append_assoc first.events (map derives one.steps) (map derives two.steps) ∙ ap (λ (e : List Event). first.events ++ e) (sym (map-append derives one.steps two.steps))));
+  spent = let more : adds_in (one.steps ++ two.steps) ≡ adds_in one.steps + adds_in two.steps = adds_in-append one.steps two.steps in let a : some + adds_in one.steps ≡ had = one.spent in let b : left + adds_in two.steps ≡ some = two.spent in omega arith;
+  sound = two.sound;
 }
 
 -- a drop costs nothing, and comes behind a conflict of the same call
@@ -96,3 +113,14 @@ solution_of s formula front lit (Some values) same units shows = (
   subst (λ (f : List (List Lit)). SatisfiesAll values f) same shows.formula,
   All-contains (IsTrueIn values) (front ++ lit ∷ []) lit (subst (λ (u : List Lit). All (IsTrueIn values) u) units shows.units) (Contains-push front lit),
 )
+
+-- what a search takes of the numbers is what it spends of the budget
+pub taken_grows : (before now : Solving) (had left : ℕ) → Searched before now had left → taken now + left ≡ taken before + had
+taken_grows before now had left searched =
+    let grew : adds_in (log_of now.events) + left ≡ adds_in (log_of before.events) + had = conflicts_grow before now had left searched in
+    let units : length (units_of now.events) ≡ length (units_of before.events) = ap (λ e. length (units_of e)) searched.grew ∙ ap length (units_searched before.events searched.steps) in
+    let formula : length now.formula ≡ length before.formula = ap length searched.same_formula in
+    omega arith
+
+pub units_stay : (before now : Solving) (had left : ℕ) → Searched before now had left → units_of now.events ≡ units_of before.events
+units_stay before now had left searched = ap units_of searched.grew ∙ units_searched before.events searched.steps

@@ -2,3 +2,4 @@
 pub mod ReadingLaws
 pub mod NumberLaws
 pub mod NumberLemmas
+pub mod LineLaws

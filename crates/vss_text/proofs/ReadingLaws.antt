@@ -79,3 +79,17 @@ both_read_once P s Q t once also = λ one other rest rest' fits fits' same.
     let first = once one.0 other.0 (t one.1 ++ rest) (t other.1 ++ rest') fits.0 fits'.0 (sym (append_assoc (s one.0) (t one.1) rest) ∙ same ∙ append_assoc (s other.0) (t other.1) rest') in
     let second = also one.1 other.1 rest rest' fits.1 fits'.1 first.1 in
     (λ i. (first.0 i, second.0 i), second.1)
+
+-- the same, of items of two kinds, of which the first is never there
+pub misses_either : {X Y Z : Type 0} (P : X → Type 0) (s : X → List ℕ) (Q : Y → Type 0) (t : Y → List ℕ) (R : Z → Type 0) (u : Z → List ℕ) (text : List ℕ) (miss : Miss)
+    → ((y : Y) → Q y → (z : Z) × R z × (u z ≡ t y))
+    → ((z : Z) → R z → ((x : X) × P x × (u z ≡ s x)) ⊎ ((y : Y) × Q y × (u z ≡ t y)))
+    → Misses P s text Wrong → Misses Q t text miss → Misses R u text miss
+unfolding NeverBegins
+misses_either P s Q t R u text Short up down never missed =
+    let named = up missed.item missed.fits in
+    record { item = named.0; more = missed.more; fits = named.1; goes_on = missed.goes_on ∙ sym named.2; too_early = missed.too_early }
+misses_either P s Q t R u text Wrong up down never missed = λ z more rest fits same. elim (down z fits) [
+  | inl w ↦ never w.0 more rest w.1 (same ∙ ap (λ front. front ++ rest) w.2)
+  | inr w ↦ missed w.0 more rest w.1 (same ∙ ap (λ front. front ++ rest) w.2)
+]

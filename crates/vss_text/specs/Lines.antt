@@ -11,6 +11,10 @@ abbrev pub lines_of : List ℕ → List (List ℕ)
 lines_of [] = []
 lines_of (byte ∷ bytes) = if byte == 10 then (10 ∷ []) ∷ lines_of bytes else with_first byte (lines_of bytes)
 
+-- the byte stands nowhere in the bytes
+abbrev pub Lacks : ℕ → List ℕ → Type 0
+Lacks end bytes = All (λ byte. byte ≢ end) bytes
+
 -- no line feed stands in the bytes
 abbrev pub IsOneLine : List ℕ → Type 0
-IsOneLine bytes = All (λ byte. byte ≢ 10) bytes
+IsOneLine bytes = Lacks 10 bytes

@@ -1,5 +1,5 @@
-//! Fixed words at the front of a text.
-ghost use Rattle.std.specs.Prelude.{◌≡◌, ◌≢◌, ◌++◌, ℕ, List, IfOk, IfErr};
+//! Fixed words and bytes at the front of a text.
+ghost use Rattle.std.specs.Prelude.{◌≡◌, ◌≢◌, ◌<◌, ◌↔◌, ◌++◌, ℕ, List, slice_index, IfOk, IfErr, IsTrue};
 ghost use Rattle.vss_text.specs.Reading.{MissesText};
 
 use crate::miss::Miss;
@@ -12,6 +12,17 @@ pub fn after<'a>(text: &'a [u8], word: &[u8]) -> Result<&'a [u8], Miss>
     match text.strip_prefix(word) {
         Some(rest) => Ok(rest),
         None => Err(miss_of(text, word)),
+    }
+}
+
+/// Whether the byte, which isn't 0, is the first of the text.
+pub fn begins_with(text: &[u8], byte: u8) -> bool
+    requires { 0 < byte }
+    ensures { IsTrue result ↔ (slice_index text.now 0 ≡ byte) }
+{
+    match text.first() {
+        Some(first) => *first == byte,
+        None => false,
     }
 }
 

@@ -5,6 +5,6 @@ mod fixed;
 mod miss;
 mod numbers;
 
-pub use fixed::after;
+pub use fixed::{after, begins_with};
 pub use miss::Miss;
 pub use numbers::number;

@@ -1,4 +1,4 @@
-use Rattle.std.proofs.Common.{arith, rules}
+use Rattle.std.proofs.Common.{rules}
 use Rattle.vss_lists.specs.Orders.{IsFirstBroken}
 use Rattle.plan_checker.proofs.JudgingLemmas.{is_run}
 use Rattle.plan_checker.proofs.runs.breach_of_run.Goals as goal
