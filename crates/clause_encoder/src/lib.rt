@@ -13,3 +13,6 @@ pub use laws::touches_are_clauses;
 pub use literals::{is, is_not};
 pub use part::{Part, write_each, write_range};
 pub use writer::{ClauseWriter, WriteFault};
+
+#[cfg(test)]
+mod tests;
