@@ -1,9 +1,9 @@
 //! Refutations whose sizes tell: a real one, and one of steps with many literals, hints and numbers.
 
-use crate::tests::{Line, add, drop_step, formula_of, lits_of, steps_of, verdict_on};
+use crate::tests::{Line, add, drop_step, formula_of, steps_of, verdict_on};
 use crate::{LogVerdict, StepFault};
 use derivation_log::Step;
-use sat_core::{Formula, is_clause};
+use sat_core::{Formula, Lit, Var, is_clause};
 use std::alloc::Global;
 use std::process::Abort;
 use std::test::Fail;
@@ -76,31 +76,33 @@ const LENGTH: u32 = 500;
 
 // The first variable is true, and with each the next; the last one is false.
 fn chain(rt: &impl Abort, alloc: Global) -> Result<Formula, Fail> {
-    let mut formula = formula_of(rt, alloc, LENGTH, &[&[1]])?;
-    for var in 1..LENGTH as i32 {
-        push(rt, alloc, &mut formula, &[-var, var + 1])?;
+    let mut formula = Formula::new(alloc, LENGTH);
+    push(rt, &mut formula, &[lit(1, true)])?;
+    for var in 1..LENGTH {
+        push(rt, &mut formula, &[lit(var, false), lit(var + 1, true)])?;
     }
-    push(rt, alloc, &mut formula, &[-(LENGTH as i32)])?;
+    push(rt, &mut formula, &[lit(LENGTH, false)])?;
     Ok(formula)
 }
 
-fn push(
-    rt: &impl Abort,
-    alloc: Global,
-    formula: &mut Formula,
-    numbers: &[i32],
-) -> Result<(), Fail> {
-    let lits = lits_of(alloc, numbers)?;
-    assert!(rt; is_clause(formula.vars(), lits.as_slice()));
+fn lit(var: u32, positive: bool) -> Lit {
+    Lit {
+        var: Var(var),
+        positive,
+    }
+}
+
+fn push(rt: &impl Abort, formula: &mut Formula, lits: &[Lit]) -> Result<(), Fail> {
+    assert!(rt; is_clause(formula.vars(), lits));
     assert!(rt; formula.len() < 1_000_000);
-    formula.push(lits.as_slice())?;
+    formula.push(lits)?;
     Ok(())
 }
 
 // A clause of all variables, the empty clause by a hint for each clause of the chain, the drop of all these, and the
 // empty clause again.
 fn long_steps(alloc: Global) -> Result<Items<Step>, Fail> {
-    let all: Vec<i32> = (1..LENGTH as i32 + 1).collect(alloc)?;
+    let all: Vec<i32> = (1..501).collect(alloc)?;
     let clauses: Vec<u32> = (1..LENGTH + 2).collect(alloc)?;
     let mut steps = Items::new(alloc);
     steps.push(add(alloc, LENGTH + 2, all.as_slice(), &[1])?)?;

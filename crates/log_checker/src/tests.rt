@@ -47,7 +47,7 @@ pub(crate) enum Line {
 }
 
 /// The literals of these numbers, negative where the literal is.
-pub(crate) fn lits_of(alloc: Global, numbers: &[i32]) -> Result<Vec<Lit>, AllocError> {
+fn lits_of(alloc: Global, numbers: &[i32]) -> Result<Vec<Lit>, AllocError> {
     numbers
         .iter()
         .map(|number| Lit {

@@ -1,27 +1,16 @@
-//! Designs layouts of virtual sub-sections for ETCS Hybrid Train Detection.
+//! The program: the words of the command line, the files of the system, standard output, and the exit status.
 #![tactic(auto)]
 
-mod answer;
-mod breach;
-mod documents;
-mod early_end;
 mod edge;
-mod names;
-mod report;
-mod run;
-mod status;
-#[cfg(test)]
-mod test_texts;
 #[cfg(test)]
 mod tests;
-mod words;
 
 use edge::{FileShelf, StdSink};
-use status::Status;
 use std::alloc::AllocError;
 use std::env;
 use std::io::ErrorKind;
 use std::process::ExitCode;
+use vss_run::{Status, run};
 
 fn main(rt: HostRuntime) -> ExitCode {
     call(&rt).exit_code()
@@ -34,7 +23,7 @@ fn call(rt: &HostRuntime) -> Status {
     };
     let mut shelf = FileShelf::new(rt, rt.alloc());
     let mut out = StdSink::new(rt);
-    run::run(rt.alloc(), words.as_slice(), &mut shelf, &mut out)
+    run(rt.alloc(), words.as_slice(), &mut shelf, &mut out)
 }
 
 /// The words behind the program's name; none where one of them isn't text, since that asks for no task.
