@@ -1,4 +1,4 @@
-//! Reports: how they are written, and read back.
+//! Reports: what they are, and how their refutations are read back.
 #![tactic(auto)]
 
 mod cells;
