@@ -1,6 +1,6 @@
 mod PassageLemmas
 mod RuleLemmas
-mod EndLemmas
+mod CandidateLemmas
 mod LayoutLemmas
 mod SectionLemmas
 pub mod SegmentLemmas

@@ -5,6 +5,7 @@ use Rattle.vss_lists.specs.Breaks.{HoldsOfEach}
 use Rattle.cell_net.specs.Rules.{IsNodeOf, node_at, IsGoodCandidate, IsGoodCell, IsGoodTrain, IsGoodJoin}
 use Rattle.cell_net.specs.Passages.{HasPlace, HasPlaces}
 use Rattle.cell_net.specs.Borders.{IsInSection}
+use Rattle.cell_net.specs.declared.limits.TheConstants.{CANDIDATES, CELLS, TRAINS}
 use Rattle.cell_net.specs.declared.ids.CellId.{CellId}
 use Rattle.cell_net.specs.declared.ids.NodeId.{NodeId}
 use Rattle.cell_net.specs.declared.cells.CellSpec.{CellSpec}
@@ -25,21 +26,21 @@ few_items : {X : Type 0} (P : ℕ → X → Type 0) (n : ℕ) (xs : List X) → 
 few_items P n xs few each =
     elim (slice_get_cases xs n).1 [ inl (x, within, is, at) ↦ absurd (let low = few n x (each.at_each n x is) in omega arith) | inr past ↦ past.0 ]
 
-pub few_cells : (p : InstanceParts) → HoldsOfEach (IsGoodCell p) p.cells → length p.cells ≤ 1000
-few_cells p = few_items (IsGoodCell p) 1000 p.cells (λ _ _ good. good.few)
+pub few_cells : (p : InstanceParts) → HoldsOfEach (IsGoodCell p) p.cells → length p.cells ≤ CELLS
+few_cells p = few_items (IsGoodCell p) CELLS p.cells (λ _ _ good. good.few)
 
-pub few_candidates : (p : InstanceParts) → HoldsOfEach (IsGoodCandidate p) p.candidates → length p.candidates ≤ 512
-few_candidates p = few_items (IsGoodCandidate p) 512 p.candidates (λ _ _ good. good.few)
+pub few_candidates : (p : InstanceParts) → HoldsOfEach (IsGoodCandidate p) p.candidates → length p.candidates ≤ CANDIDATES
+few_candidates p = few_items (IsGoodCandidate p) CANDIDATES p.candidates (λ _ _ good. good.few)
 
-pub few_trains : (p : InstanceParts) → HoldsOfEach (IsGoodTrain p) p.trains → length p.trains ≤ 32
-few_trains p = few_items (IsGoodTrain p) 32 p.trains (λ _ _ good. good.few)
+pub few_trains : (p : InstanceParts) → HoldsOfEach (IsGoodTrain p) p.trains → length p.trains ≤ TRAINS
+few_trains p = few_items (IsGoodTrain p) TRAINS p.trains (λ _ _ good. good.few)
 
-has_place : (p : InstanceParts) (e : CellEnd) (n : NodeId) → length p.cells ≤ 1000 → IsNodeOf p e n → HasPlace e
+has_place : (p : InstanceParts) (e : CellEnd) (n : NodeId) → length p.cells ≤ CELLS → IsNodeOf p e n → HasPlace e
 unfolding IsNodeOf
 has_place p e n few (c, is, at) = let within = slice_get_within p.cells e.cell.0 c is in omega arith
 
 -- the ends of good joins have places in the row of all ends
-pub have_places : (p : InstanceParts) → length p.cells ≤ 1000 → HoldsOfEach (IsGoodJoin p) p.joins → All HasPlaces p.joins
+pub have_places : (p : InstanceParts) → length p.cells ≤ CELLS → HoldsOfEach (IsGoodJoin p) p.joins → All HasPlaces p.joins
 have_places p few each k d within =
     let j : JoinSpec = slice_index_or p.joins k d in
     let good : IsGoodJoin p k j = each.at_each k j (slice_get-get_or p.joins k d within) in

@@ -1,7 +1,6 @@
 -- Names for people: what makes labels those of an instance.
-use Rattle.std.specs.Prelude.{◌≡◌, ◌≢◌, ◌<◌, ◌-◌, ℕ, List, Some, length, slice_get, All, AllPairs}
-use Rattle.vss_lists.specs.Breaks.{HoldsOfEach}
-use Rattle.cell_net.specs.Names.{IsName}
+use Rattle.std.specs.Prelude.{◌≡◌, ◌≢◌, ◌<◌, ℕ, List, length, All, AllPairs}
+use Rattle.vss_names.specs.Names.{IsName}
 use Rattle.cell_net.specs.declared.labels.CellLabel.{CellLabel}
 use Rattle.cell_net.specs.declared.labels.PlaceLabel.{PlaceLabel}
 use Rattle.cell_net.specs.declared.labels.PlaceLabel.TheVariants.{Cut, Joint}
@@ -17,23 +16,13 @@ pub record IsGoodPlace (tracks : ℕ) (place : PlaceLabel) : Type 0 where
   pub cut : (track at : ℕ) → place ≡ Cut track at → track < tracks
   pub joint : (name : List ℕ) → place ≡ Joint name → IsName name
 
--- the cell before it is the one of the number before on its track
-pub record IsBehind (cells : List CellLabel) (place : ℕ) (label : CellLabel) : Type 0 where
-  pub some_before : 0 < place
-  pub is_before : slice_get cells (place - 1) ≡ Some (record { track = label.track; index = label.index - 1 })
-
--- a track's cells are numbered from 0 and stand in turn
-abbrev pub IsInTurn : List CellLabel → ℕ → CellLabel → Type 0
-IsInTurn cells place label = 0 < label.index → IsBehind cells place label
-
--- labels by which each cell, place and train can be told: every text is a name, no two tracks, cells,
--- places or trains have the same, and the cells of each track are numbered in turn
+-- labels by which each cell, place and train can be told: every text is a name, each track that they
+-- number is there, and no two tracks, cells, places or trains have the same
 pub record AreLabels (labels : Labels) : Type 0 where
   pub tracks_named : All IsName labels.tracks
   pub trains_named : All IsName labels.trains
   pub cell_tracks : All (λ c. c.track < length labels.tracks) labels.cells
   pub places : All (IsGoodPlace (length labels.tracks)) labels.places
-  pub in_turn : HoldsOfEach (IsInTurn labels.cells) labels.cells
   pub tracks_differ : AllDiffer labels.tracks
   pub cells_differ : AllDiffer labels.cells
   pub places_differ : AllDiffer labels.places

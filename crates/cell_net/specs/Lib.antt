@@ -1,13 +1,13 @@
+-- The definitions of space, time, trains and plans.
 pub mod Space
 pub mod Borders
 pub mod Runs
 pub mod Plans
-pub mod Names
 pub mod Labelled
 pub mod Rules
 pub mod Refusals
 pub mod Passages
-pub mod Ends
+pub mod CellEnds
 pub mod Sections
 pub mod Segments
 pub mod Laws

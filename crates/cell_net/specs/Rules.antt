@@ -1,9 +1,10 @@
 -- The rules that the parts of an instance keep.
 use Rattle.std.specs.Prelude.{◌≡◌, ◌≢◌, ◌<◌, ◌≤◌, ◌+◌, ◌^◌, ◌⊎◌, ℕ, List, length, All, Some, slice_get}
-use Rattle.vss_lists.specs.Breaks.{HoldsOfEach}
+use Rattle.vss_lists.specs.Breaks.{HoldsOfEach, HoldsOfNumbers}
 use Rattle.cell_net.specs.Space.{IsCell}
 use Rattle.cell_net.specs.Borders.{IsAboveLast, IsCellAt, IsInSection, RisesAt}
-use Rattle.cell_net.specs.Sections.{HasGoodSections}
+use Rattle.cell_net.specs.Sections.{IsConnected}
+use Rattle.cell_net.specs.declared.limits.TheConstants.{ADVANCE, CANDIDATES, CELLS, LENGTH, STEPS, TRAINS}
 use Rattle.cell_net.specs.declared.ids.CandidateId.{CandidateId}
 use Rattle.cell_net.specs.declared.ids.CellId.{CellId}
 use Rattle.cell_net.specs.declared.ids.NodeId.{NodeId}
@@ -16,20 +17,21 @@ use Rattle.cell_net.specs.declared.trains.StopSpec.{StopSpec}
 use Rattle.cell_net.specs.declared.trains.TrainSpec.{TrainSpec}
 use Rattle.cell_net.specs.declared.parts.InstanceParts.{InstanceParts}
 
--- there are 1 to 400 time steps
+-- there is a time step, and no more than the limit
 pub record HasGoodSteps (p : InstanceParts) : Type 0 where
   pub some : 0 < p.steps
-  pub few : p.steps ≤ 400
+  pub few : p.steps ≤ STEPS
 
--- one of the first 1,000 cells, between two different nodes, in a section, with a limit of 1 to 20
+-- one of the first cells, up to their limit, between two different nodes, in a section, in which a train can
+-- advance
 pub record IsGoodCell (p : InstanceParts) (place : ℕ) (c : CellSpec) : Type 0 where
-  pub few : place < 1000
+  pub few : place < CELLS
   pub low : c.low.0 < p.nodes
   pub high : c.high.0 < p.nodes
   pub section : c.section.0 < p.sections
   pub two_nodes : c.low ≢ c.high
   pub moves : 0 < c.limit
-  pub limited : c.limit ≤ 20
+  pub limited : c.limit ≤ ADVANCE
 
 -- the node at an end of a cell
 abbrev pub node_at : CellSpec → End → NodeId
@@ -59,10 +61,10 @@ pub record JoinsTwoCells (p : InstanceParts) (n : NodeId) : Type 0 where
   pub other_in : IsInSection p section other
   pub no_third : (c : CellId) → IsCellAt p c n → (c ≡ one) ⊎ (c ≡ other)
 
--- one of the first 512 candidates, above the one before it, is a node of the instance that joins two
--- cells
+-- one of the first candidates, up to their limit, above the one before it, is a node of the instance that
+-- joins two cells
 pub record IsGoodCandidate (p : InstanceParts) (place : ℕ) (n : NodeId) : Type 0 where
-  pub few : place < 512
+  pub few : place < CANDIDATES
   pub rises : IsAboveLast (λ m. m.0) p.candidates place n
   pub in_range : n.0 < p.nodes
   pub joins : JoinsTwoCells p n
@@ -83,17 +85,19 @@ pub record IsGoodStop (p : InstanceParts) (s : StopSpec) : Type 0 where
   pub stands : 0 < s.dwell
   pub fits : s.from + s.dwell ≤ s.until
 
--- one of the first 32 trains, of 1 to 64 cells, that advances 1 to 20 cells in a step, between two
--- cells of the instance, in time, with good stops
+-- one of the first trains, up to their limit, of some cells but not too many, that can advance but not too
+-- fast, between two cells of the instance, entering within a window of steps that its last step doesn't
+-- precede, in time, with good stops
 pub record IsGoodTrain (p : InstanceParts) (place : ℕ) (t : TrainSpec) : Type 0 where
-  pub few : place < 32
+  pub few : place < TRAINS
   pub long : 0 < t.length
-  pub short : t.length ≤ 64
+  pub short : t.length ≤ LENGTH
   pub moves : 0 < t.advance
-  pub limited : t.advance ≤ 20
+  pub limited : t.advance ≤ ADVANCE
   pub entry : IsCell p t.entry.cell
   pub goal : IsCell p t.goal.cell
-  pub in_order : t.start ≤ t.by
+  pub window : t.start ≤ t.latest
+  pub in_order : t.latest ≤ t.by
   pub in_time : t.by < p.steps
   pub stops : All (IsGoodStop p) t.stops
 
@@ -106,12 +110,12 @@ pub record IsInstance (p : InstanceParts) : Type 0 where
   pub steps : HasGoodSteps p
   pub cells : HoldsOfEach (IsGoodCell p) p.cells
   pub joins : HoldsOfEach (IsGoodJoin p) p.joins
-  pub sections : HasGoodSections p
+  pub sections : HoldsOfNumbers (IsConnected p) p.sections
   pub candidates : HoldsOfEach (IsGoodCandidate p) p.candidates
   pub kept : HoldsOfEach (IsGoodKept p) p.kept
   pub stations : HoldsOfEach (IsGoodStation p) p.stations
   pub trains : HoldsOfEach (IsGoodTrain p) p.trains
-  pub few_cells : length p.cells ≤ 1000
-  pub few_candidates : length p.candidates ≤ 512
-  pub few_trains : length p.trains ≤ 32
+  pub few_cells : length p.cells ≤ CELLS
+  pub few_candidates : length p.candidates ≤ CANDIDATES
+  pub few_trains : length p.trains ≤ TRAINS
   pub few_stops : HasFewStops p

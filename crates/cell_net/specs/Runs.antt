@@ -33,9 +33,10 @@ pub record IsSweep (p : InstanceParts) (t : TrainSpec) (cells : List DirCell) : 
 abbrev pub Continues : TrainSpec → List DirCell → List DirCell → Type 0
 Continues t cells next = drop (length cells - t.length) cells ≡ take t.length next
 
--- the run begins at the train's step, with the train's entry cell
+-- the run begins within the train's window of entry, with the train's entry cell
 pub record Enters (t : TrainSpec) (r : TrainRun) : Type 0 where
-  pub in_time : r.start ≡ t.start
+  pub not_early : t.start ≤ r.start
+  pub not_late : r.start ≤ t.latest
   pub first : Sweep
   pub is_first : slice_get r.sweeps 0 ≡ Some first
   pub with_entry : slice_get first.cells 0 ≡ Some t.entry
@@ -69,8 +70,8 @@ unfoldable pub IsMet : InstanceParts → TrainSpec → TrainRun → StopSpec →
 IsMet p t r stop = (s : ℕ) × (stop.from ≤ s) × (s + stop.dwell ≤ stop.until) ×
     ((step : ℕ) → s ≤ step → step < s + stop.dwell → StandsIn p t r stop.station step)
 
--- a run of the train, from its entry cell at its step to its goal cell in time, over sweeps each of
--- which goes on from the one before, with every stop met
+-- a run of the train, from its entry cell within its window to its goal cell in time, over sweeps each
+-- of which goes on from the one before, with every stop met
 pub record IsRun (p : InstanceParts) (t : TrainSpec) (r : TrainRun) : Type 0 where
   pub enters : Enters t r
   pub sweeps : All (λ w. IsSweep p t w.cells) r.sweeps

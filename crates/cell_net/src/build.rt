@@ -1,16 +1,19 @@
-ghost use Rattle.std.specs.Prelude.{◌<◌, ◌^◌, ◌↔◌, IsTrue, MatchResult, length};
+//! Building an instance: the tests of its parts, in their order.
+
+ghost use Rattle.std.specs.Prelude.{◌≡◌, ◌<◌, ◌^◌, ◌↔◌, IsTrue, MatchResult, length};
 ghost use Rattle.cell_net.specs.Rules.{HasFewStops, HasGoodSteps, IsInstance};
 ghost use Rattle.cell_net.specs.Refusals.{IsRefusal};
+ghost use Rattle.cell_net.specs.declared.build.BuildRefusal.TheVariants.{Memory};
 
+use crate::limits::STEPS;
 use crate::parts::InstanceParts;
 use crate::rules::{
     first_bad_candidate, first_bad_cell, first_bad_join, first_bad_kept, first_bad_section,
     first_bad_station, first_bad_train,
 };
-use std::alloc::Global;
-
-/// At most so many time steps.
-const STEPS: u32 = 400;
+use crate::segments::segments_of;
+use node_groups::sorted_ends;
+use std::alloc::{AllocError, Global};
 
 /// Why the parts are no instance: the first rule in this order that one of them breaks, and the
 /// lowest place at which it is broken.
@@ -23,8 +26,7 @@ pub enum BuildRefusal {
     BadCell(u32),
     /// A join of a cell out of range, of an end with itself, or of ends at different nodes.
     BadJoin(u32),
-    /// The cells of the section are not connected by shared nodes, or are at least as many as the
-    /// nodes that they touch.
+    /// The cells of the section are not connected by shared nodes.
     BadSection(u32),
     /// A candidate past the first 512, not above the one before, out of range, or not the node of
     /// exactly two cell ends, of two cells of one section.
@@ -34,11 +36,20 @@ pub enum BuildRefusal {
     /// A station without a cell, or with a cell out of range.
     BadStation(u32),
     /// A train past the first 32; with a length that isn't 1 to 64 or an advance that isn't 1 to
-    /// 20; with a cell out of range; that starts after its last step or past the horizon; or with a
-    /// stop whose station is out of range, whose dwell is 0 or whose window is too short.
+    /// 20; with a cell out of range; whose latest entry is before its first or after its last step, or
+    /// whose last step is past the horizon; or with a stop whose station is out of range, whose dwell is
+    /// 0 or whose window is too short.
     BadTrain(u32),
-    /// Want of memory.
+    /// Want of memory, where steps, cells and joins are good.
     Memory,
+}
+
+impl From<AllocError> for BuildRefusal {
+    ghost from_gives = { λ _ refusal. refusal ≡ Memory };
+
+    fn from(_: AllocError) -> BuildRefusal {
+        BuildRefusal::Memory
+    }
 }
 
 /// Tests every rule, in the order of the refusals.
@@ -55,35 +66,28 @@ pub(crate) fn test_rules(alloc: Global, parts: &InstanceParts) -> Result<(), Bui
     if !has_good_steps(parts) {
         return Err(BuildRefusal::BadSteps);
     }
-    match first_bad_cell(parts) {
-        None => {}
-        Some(place) => return Err(BuildRefusal::BadCell(place)),
+    if let Some(place) = first_bad_cell(parts) {
+        return Err(BuildRefusal::BadCell(place));
     }
-    match first_bad_join(parts) {
-        None => {}
-        Some(place) => return Err(BuildRefusal::BadJoin(place)),
+    if let Some(place) = first_bad_join(parts) {
+        return Err(BuildRefusal::BadJoin(place));
     }
-    match first_bad_section(alloc, parts) {
-        Ok(None) => {}
-        Ok(Some(place)) => return Err(BuildRefusal::BadSection(place)),
-        Err(_) => return Err(BuildRefusal::Memory),
+    let segments = segments_of(alloc, parts)?;
+    let ends = sorted_ends(alloc, &segments)?;
+    if let Some(place) = first_bad_section(alloc, parts, &segments, &ends)? {
+        return Err(BuildRefusal::BadSection(place));
     }
-    match first_bad_candidate(alloc, parts) {
-        Ok(None) => {}
-        Ok(Some(place)) => return Err(BuildRefusal::BadCandidate(place)),
-        Err(_) => return Err(BuildRefusal::Memory),
+    if let Some(place) = first_bad_candidate(parts, &ends) {
+        return Err(BuildRefusal::BadCandidate(place));
     }
-    match first_bad_kept(parts) {
-        None => {}
-        Some(place) => return Err(BuildRefusal::BadKept(place)),
+    if let Some(place) = first_bad_kept(parts) {
+        return Err(BuildRefusal::BadKept(place));
     }
-    match first_bad_station(parts) {
-        None => {}
-        Some(place) => return Err(BuildRefusal::BadStation(place)),
+    if let Some(place) = first_bad_station(parts) {
+        return Err(BuildRefusal::BadStation(place));
     }
-    match first_bad_train(parts) {
-        None => {}
-        Some(place) => return Err(BuildRefusal::BadTrain(place)),
+    if let Some(place) = first_bad_train(parts) {
+        return Err(BuildRefusal::BadTrain(place));
     }
     Ok(())
 }

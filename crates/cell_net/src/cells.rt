@@ -1,3 +1,5 @@
+//! Cells, their ends, and the joins of ends.
+
 ghost use Rattle.std.specs.Prelude.{◌≡◌, ◌↔◌, IsTrue};
 ghost use Rattle.cell_net.specs.Space.{head_of, opposite, tail_of};
 

@@ -1,3 +1,5 @@
+//! Numbers of things: places in the lists of an instance, or numbers below its counts.
+
 /// A cell, by its place in the list of cells, counted from 0 as all of these are.
 #[derive(Clone, Copy, Debug, PartialEq, Eq)]
 pub struct CellId(pub u32);

@@ -1,11 +1,14 @@
-ghost use Rattle.std.specs.Prelude.{◌≡◌, ◌<◌, ◌^◌, ◌↔◌, All, IfErr, IfOk, IsTrue, Some, length, slice_get};
+//! Instances: parts that keep every rule.
+
+ghost use Rattle.std.specs.Prelude.{◌≡◌, ◌<◌, ◌≤◌, ◌^◌, ◌↔◌, All, IfErr, IfOk, IsTrue, Some, length, slice_get};
 ghost use Rattle.cell_net.specs.Space.{Follows, IsCell};
-ghost use Rattle.cell_net.specs.Rules.{HasFewStops, IsInstance};
+ghost use Rattle.cell_net.specs.Rules.{HasFewStops, IsGoodStation, IsInstance};
 ghost use Rattle.cell_net.specs.Refusals.{IsRefusal};
 
 use crate::build::{BuildRefusal, test_rules};
 use crate::cells::{CellSpec, DirCell, head_of, tail_of};
 use crate::ids::{CandidateId, CellId, NodeId, StationId, TrainId};
+use crate::limits::{CANDIDATES, CELLS, TRAINS};
 use crate::parts::InstanceParts;
 use crate::passages::{Passage, index_of, leads};
 use crate::trains::TrainSpec;
@@ -47,20 +50,16 @@ impl Instance {
         ensures rules { IfOk result IsInstance }
         ensures refusal { IfErr result (IsRefusal parts) }
     {
-        match test_rules(alloc, &parts) {
-            Ok(()) => {}
-            Err(refusal) => return Err(refusal),
-        }
-        match index_of(alloc, &parts) {
-            Ok((passages, starts)) => Ok(Instance {
-                parts,
-                passages,
-                starts,
-            }),
-            Err(_) => Err(BuildRefusal::Memory),
-        }
+        test_rules(alloc, &parts)?;
+        let (passages, starts) = index_of(alloc, &parts)?;
+        Ok(Instance {
+            parts,
+            passages,
+            starts,
+        })
     }
 
+    /// What the instance was made of.
     pub fn parts(&self) -> &InstanceParts
         ensures parts { result.now ≡ self.now }
         ensures rules { IsInstance self.now }
@@ -68,12 +67,15 @@ impl Instance {
         &self.parts
     }
 
+    /// How many cells it has.
     pub fn cell_count(&self) -> u32
-        ensures { result ≡ length self.now.cells }
+        ensures value { result ≡ length self.now.cells }
+        ensures few { result ≤ CELLS }
     {
         self.parts.cells.len() as u32
     }
 
+    /// The cell of that number.
     pub fn cell(&self, id: CellId) -> CellSpec
         requires { IsCell self.now id }
         ensures { slice_get self.now.cells id.0 ≡ Some result }
@@ -94,12 +96,15 @@ impl Instance {
         )
     }
 
+    /// How many candidates it has.
     pub fn candidate_count(&self) -> u32
-        ensures { result ≡ length self.now.candidates }
+        ensures value { result ≡ length self.now.candidates }
+        ensures few { result ≤ CANDIDATES }
     {
         self.parts.candidates.len() as u32
     }
 
+    /// The node of that candidate.
     pub fn candidate(&self, id: CandidateId) -> NodeId
         requires { id.0 < length self.now.candidates }
         ensures { slice_get self.now.candidates id.0 ≡ Some result }
@@ -107,32 +112,40 @@ impl Instance {
         self.parts.candidates.as_slice()[id.0 as usize]
     }
 
+    /// The candidates whose border is kept, rising.
     pub fn kept(&self) -> &[CandidateId]
         ensures { result.now ≡ self.now.kept }
     {
         self.parts.kept.as_slice()
     }
 
+    /// The cells of that station.
     pub fn station(&self, id: StationId) -> &[CellId]
         requires { id.0 < length self.now.stations }
-        ensures { slice_get self.now.stations id.0 ≡ Some result.now }
+        ensures value { slice_get self.now.stations id.0 ≡ Some result.now }
+        ensures good { IsGoodStation self.now id.0 result.now }
     {
         self.parts.stations.as_slice()[id.0 as usize].as_slice()
     }
 
+    /// How many trains it has.
     pub fn train_count(&self) -> u32
-        ensures { result ≡ length self.now.trains }
+        ensures value { result ≡ length self.now.trains }
+        ensures few { result ≤ TRAINS }
     {
         self.parts.trains.len() as u32
     }
 
+    /// The train of that number.
     pub fn train(&self, id: TrainId) -> &TrainSpec
         requires { id.0 < length self.now.trains }
-        ensures { slice_get self.now.trains id.0 ≡ Some result.now }
+        ensures value { slice_get self.now.trains id.0 ≡ Some result.now }
+        ensures rules { IsInstance self.now }
     {
         &self.parts.trains.as_slice()[id.0 as usize]
     }
 
+    /// How many time steps it has.
     pub fn steps(&self) -> u32
         ensures { result ≡ self.now.steps }
     {

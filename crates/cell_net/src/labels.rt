@@ -1,3 +1,5 @@
+//! Names for people.
+
 use vss_lists::{Items, Text};
 
 /// The name of a cell: a track, by its place in the names of tracks, and the cell's number on it,

@@ -1,3 +1,5 @@
+//! Laws of the definitions, for the proofs of callers.
+
 ghost use Rattle.std.specs.Prelude.{List};
 ghost use Rattle.cell_net.specs.Laws.{HasOneLayoutRefusal, HasOneRefusal, LinksBack, LinksItself, LinksOn, RefusesNoInstance, RefusesNoLayout};
 ghost use Rattle.cell_net.specs.declared.ids.CandidateId.{CandidateId};

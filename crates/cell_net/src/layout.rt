@@ -1,3 +1,5 @@
+//! Layouts of virtual borders.
+
 ghost use Rattle.std.specs.Prelude.{◌≡◌, ◌<◌, ◌≤◌, ◌^◌, ◌↔◌, Contains, IfErr, IfOk, IsTrue, length};
 ghost use Rattle.std.specs.List.Sorted.{IsPartitionPoint};
 ghost use Rattle.vss_lists.specs.Breaks.{HoldsOfEach};
@@ -45,17 +47,16 @@ impl Layout {
         ensures rules { IfOk result (IsBorderSet inst.now) }
         ensures refusal { IfErr result (IsLayoutRefusal inst.now borders.items) }
     {
-        match first_not_rising(borders.as_slice()) {
-            None => {}
-            Some(place) => return Err(LayoutRefusal::NotRising(place)),
+        if let Some(place) = first_not_rising(borders.as_slice()) {
+            return Err(LayoutRefusal::NotRising(place));
         }
-        match first_out_of_range(inst.parts(), borders.as_slice()) {
-            None => {}
-            Some(place) => return Err(LayoutRefusal::OutOfRange(place)),
+        if let Some(place) = first_out_of_range(inst.parts(), borders.as_slice()) {
+            return Err(LayoutRefusal::OutOfRange(place));
         }
         Ok(Layout { borders })
     }
 
+    /// The borders, rising.
     pub fn borders(&self) -> &[CandidateId]
         ensures { result.now ≡ self.now }
     {

@@ -5,12 +5,12 @@
 
 mod build;
 mod cells;
-mod ends;
 mod ids;
 mod instance;
 mod labels;
 mod laws;
 mod layout;
+pub mod limits;
 mod parts;
 mod passages;
 mod plans;

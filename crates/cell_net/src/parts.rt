@@ -1,3 +1,5 @@
+//! What an instance is made of.
+
 use super::cells::{CellSpec, JoinSpec};
 use super::ids::{CandidateId, CellId, NodeId};
 use super::trains::TrainSpec;

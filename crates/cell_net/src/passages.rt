@@ -1,8 +1,11 @@
+//! The index of joins by cell end.
+
 ghost use Rattle.std.specs.Prelude.{◌≡◌, ◌+◌, ◌<◌, ◌≤◌, ◌↔◌, length, All, Contains, IsTrue, IfOk, IsPermutation};
 ghost use Rattle.std.specs.List.Sorted.{IsNonDecreasingBy};
 ghost use Rattle.cell_net.specs.Passages.{end_number, end_place, passage_between, ArePassagesOf, AreStarts, HasPlace, HasPlaces, IsIndexed, Splits};
 
 use super::cells::{CellEnd, End, JoinSpec, is_same_end};
+use super::limits::CELLS;
 use super::parts::InstanceParts;
 use std::alloc::{AllocError, Global};
 
@@ -37,7 +40,7 @@ pub(crate) fn index_of(
     alloc: Global,
     parts: &InstanceParts,
 ) -> Result<(Vec<Passage>, Vec<usize>), AllocError>
-    requires cells { length parts.now.cells ≤ 1000 }
+    requires cells { length parts.now.cells ≤ CELLS }
     requires joins { All HasPlaces parts.now.joins }
     ensures { IfOk result (λ index. IsIndexed parts.now index.0.items index.1.items) }
 {

@@ -1,3 +1,5 @@
+//! Plans of trains.
+
 use super::cells::DirCell;
 use vss_lists::Items;
 

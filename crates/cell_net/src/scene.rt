@@ -1,3 +1,5 @@
+//! An instance with its names.
+
 ghost use Rattle.cell_net.specs.Labelled.{AreLabelsOf};
 
 use crate::instance::Instance;

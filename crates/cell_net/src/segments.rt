@@ -1,3 +1,5 @@
+//! Cells as segments between nodes.
+
 ghost use Rattle.std.specs.Prelude.{◌≡◌, IfOk, map};
 ghost use Rattle.cell_net.specs.Segments.{segment_of};
 

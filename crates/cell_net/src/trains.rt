@@ -1,3 +1,5 @@
+//! Trains and their stops.
+
 use super::cells::DirCell;
 use super::ids::StationId;
 use vss_lists::Items;
@@ -13,8 +15,8 @@ pub struct StopSpec {
 }
 
 /// A train: its length in cells (1 to 64), its greatest advance in cells per step (1 to 20), the
-/// directed cells where it enters and leaves, the step at which it enters, the last step at which it
-/// may arrive, and its stops.
+/// directed cells where it enters and leaves, the first and the last step at which it may enter, the last
+/// step at which it may arrive, and its stops.
 #[derive(Debug, Drop)]
 pub struct TrainSpec {
     pub length: u32,
@@ -22,6 +24,7 @@ pub struct TrainSpec {
     pub entry: DirCell,
     pub goal: DirCell,
     pub start: u32,
+    pub latest: u32,
     pub by: u32,
     pub stops: Items<StopSpec>,
 }

@@ -1,4 +1,4 @@
 pub mod ListLemmas
 pub mod NumberLemmas
-pub mod ReadLemmas
 pub mod WriteLemmas
+pub mod StepLemmas

@@ -1,89 +1,101 @@
--- Laws of numbers at the front of a text, with a blank behind them.
-use Rattle.std.proofs.Common.{◌≡◌, ◌≢◌, ℕ, ◌+◌, ◌-◌, ◌*◌, ◌^◌, ◌<◌, ◌≤◌, inl, inr, List, ◌∷◌, ◌++◌, length, take, drop, get_or, refl, ap, sym, subst, ◌∙◌, arith}
-use Rattle.std.specs.Prelude.{decimal}
-use Rattle.std.specs.Char.{digit_value}
-use Rattle.std.specs.Str.Parse.{digits_value, AllDigits}
-use Rattle.std.proofs.lemmas.Bool.{cases_eq, cases_lt}
-use Rattle.std.proofs.lemmas.List.{take-append-drop, drop_more, length-take-le, get_or-take}
-use Rattle.std.proofs.lemmas.Fmt.{decimal-digits_value, decimal_digit}
-use Rattle.std.proofs.lemmas.Int.Digits.{digits_value_more, digits_value-lt, digits_more}
-use Rattle.std.proofs.lemmas.Str.{digit_value_digit}
-use Rattle.std.proofs.Math.Nat.{pow-le-pow_right}
-use Rattle.std.proofs.lemmas.Str.Parse.{numerals_by_value, tells_digits}
-use Rattle.derivation_log.specs.Text.{IsLogNumber}
-use Rattle.derivation_log.specs.WordLaws.{HasNumber}
+-- Which numbers of a text are numbers of a log.
+use Rattle.std.proofs.Common.{◌≡◌, ◌≢◌, ℕ, ◌<◌, List, [], ◌∷◌, ◌++◌, Bool, true, false, cond, length, drop, refl, ap, sym, ◌∙◌, arith, append_assoc, append-nil}
+use Rattle.std.specs.Prelude.{decimal, slice_index, nat_eq}
+use Rattle.std.proofs.lemmas.Bool.{cases_eq, eqb-true}
+use Rattle.std.proofs.lemmas.Fmt.{decimal_digit}
+use Rattle.sat_core.specs.declared.literal.Lit.{Lit}
+use Rattle.sat_core.specs.declared.literal.ClauseId.{ClauseId}
+use Rattle.vss_text.specs.Numbers.{IsShort, ended}
+use Rattle.vss_text.specs.Reading.{EndsWithin, NeverBegins, Misses}
+use Rattle.vss_text.specs.declared.miss.Miss.{Miss}
+use Rattle.vss_text.specs.declared.miss.Miss.TheVariants.{Short, Wrong}
+use Rattle.derivation_log.specs.Text.{number_text, literal_text, blanked, IsLogNumber}
+use Rattle.derivation_log.specs.WordLaws.{decimal_first}
 
--- the digits read so far
-pub record AreRead (text : List ℕ) (count value : ℕ) : Type 0 where
-  pub at_most_nine : count ≤ 9
-  pub no_zero : 0 < count → 48 < get_or text 0 0
-  pub all : (k : ℕ) → k < count → (48 ≤ get_or text k 0) × (get_or text k 0 ≤ 57)
-  pub digits : AllDigits 10 (take count text)
-  pub value_is : value ≡ digits_value 10 (take count text)
+-- a number that doesn't begin with 0 isn't 0
+pub not_zero : (n : ℕ) (text rest : List ℕ) → slice_index text 0 ≢ 48 → text ≡ decimal n ++ 32 ∷ rest → n ≢ 0
+not_zero n text rest first is zero_is = first (ap (λ bytes. slice_index bytes 0) (is ∙ ap (λ digits. digits ++ 32 ∷ rest) (ap decimal zero_is ∙ decimal_digit 0 (omega arith))))
 
-pub AreRead-none : (text : List ℕ) → AreRead text 0 0
-AreRead-none text = record {
-  at_most_nine = omega arith;
-  no_zero = λ some. absurd (omega arith);
-  all = λ k under. absurd (omega arith);
-  digits = tt;
-  value_is = refl;
+-- where 0 stands first, there is no number of a log
+pub never_zero : (text : List ℕ) → slice_index text 0 ≡ 48 → NeverBegins IsLogNumber (ended 32) text
+unfolding NeverBegins
+never_zero [] first = absurd (omega arith)
+never_zero (b ∷ text) first = λ n more rest range same.
+    omega (arith, decimal_first n rest range, ap (λ bytes. slice_index bytes 0) (same ∙ append_assoc (decimal n) (32 ∷ []) rest))
+
+one_more : (text more : List ℕ) (n : ℕ) → slice_index text 0 ≢ 48 → n < 1000000000 → 0 < length more → text ++ more ≡ ended 32 n → EndsWithin IsLogNumber (ended 32) text
+one_more [] more n first small some is = record { item = 1; more = 49 ∷ 32 ∷ []; fits = (omega arith, omega arith); goes_on = ap (λ digits. digits ++ 32 ∷ []) (sym (decimal_digit 1 (omega arith))); too_early = omega arith }
+one_more (b ∷ text) more n first small some is =
+    let some_number : n ≢ 0 = not_zero n (b ∷ (text ++ more)) [] first is in
+    record { item = n; more = more; fits = (omega arith, omega arith); goes_on = is; too_early = some }
+
+-- where 0 doesn't stand first, a missed number is a missed number of a log
+pub log_misses : (text : List ℕ) (miss : Miss) → slice_index text 0 ≢ 48 → Misses IsShort (ended 32) text miss → Misses IsLogNumber (ended 32) text miss
+unfolding NeverBegins
+log_misses text Short first missed = one_more text missed.more missed.item first missed.fits missed.too_early missed.goes_on
+log_misses text Wrong first missed = λ n more rest range same. missed n more rest (omega arith) same
+
+make : ℕ → Bool → Lit
+make n b = record { var = record { 0 = n }; positive = b }
+
+-- behind a minus sign, a missed number is a missed literal
+pub negative_misses : (text behind : List ℕ) (miss : Miss) → text ≡ 45 ∷ behind → Misses IsLogNumber (ended 32) behind miss → Misses (λ lit. IsLogNumber lit.var.0) (blanked literal_text) text miss
+unfolding NeverBegins make
+negative_misses text behind Short is missed = record {
+  item = make missed.item false;
+  more = missed.more;
+  fits = missed.fits;
+  goes_on = ap (λ bytes. bytes ++ missed.more) is ∙ ap (λ bytes. 45 ∷ bytes) missed.goes_on;
+  too_early = missed.too_early;
 }
+negative_misses text behind Wrong is missed = λ lit more rest range same. by_sign lit.positive lit.var.0 more rest range (ap (λ bytes. bytes ++ more) (sym is) ∙ same)
+  where
+    by_sign : (b : Bool) (n : ℕ) (more rest : List ℕ) → IsLogNumber n → 45 ∷ (behind ++ more) ≡ ((cond b [] (45 ∷ []) ++ decimal n) ++ 32 ∷ []) ++ rest → ⊥
+    by_sign true n more rest range same = omega (arith, decimal_first n rest range, ap (λ bytes. slice_index bytes 0) (same ∙ append_assoc (decimal n) (32 ∷ []) rest))
+    by_sign false n more rest range same = missed n more rest range (cc)
 
-pub AreRead-more : (text : List ℕ) (count value : ℕ) → AreRead text count value → count < length text → 48 ≤ get_or text count 0 → get_or text count 0 ≤ 57 → count < 9 → (count ≡ 0 → get_or text count 0 ≢ 48) → AreRead text (count + 1) (value * 10 + (get_or text count 0 - 48))
-AreRead-more text count value before within low high few no_zero =
-    let byte : ℕ = get_or text count 0 in
-    let digit : digit_value byte + 48 ≡ byte = digit_value_digit byte (low, high) in
-    record {
-      at_most_nine = omega arith;
-      no_zero = λ _. elim (cases_eq count 0) [
-        | inl first ↦
-            let at : get_or text count 0 ≡ get_or text 0 0 = ap (λ k. get_or text k 0) first in
-            let not_zero : get_or text count 0 ≢ 48 = no_zero first in
-            omega arith
-        | inr later ↦ before.no_zero (omega arith)
-      ];
-      all = λ k under. elim (cases_eq k count) [
-        | inl here ↦ subst (λ place. (48 ≤ get_or text place 0) × (get_or text place 0 ≤ 57)) (sym here) (low, high)
-        | inr earlier ↦ before.all k (omega arith)
-      ];
-      digits = digits_more 10 text count within before.digits (omega arith);
-      value_is = omega (arith, before.value_is, digits_value_more 10 text count within);
-    }
+-- where no minus sign stands, a missed number is a missed literal
+pub positive_misses : (text : List ℕ) (miss : Miss) → slice_index text 0 ≢ 45 → Misses IsLogNumber (ended 32) text miss → Misses (λ lit. IsLogNumber lit.var.0) (blanked literal_text) text miss
+unfolding NeverBegins make
+positive_misses text Short first missed = record {
+  item = make missed.item true;
+  more = missed.more;
+  fits = missed.fits;
+  goes_on = missed.goes_on;
+  too_early = missed.too_early;
+}
+positive_misses text Wrong first missed = λ lit more rest range same. by_sign text lit.positive lit.var.0 more rest first missed range same
+  where
+    by_sign : (text : List ℕ) (b : Bool) (n : ℕ) (more rest : List ℕ) → slice_index text 0 ≢ 45
+        → ((m : ℕ) (more rest : List ℕ) → IsLogNumber m → text ++ more ≢ ended 32 m ++ rest)
+        → IsLogNumber n → text ++ more ≡ ((cond b [] (45 ∷ []) ++ decimal n) ++ 32 ∷ []) ++ rest → ⊥
+    by_sign text true n more rest first missed range same = missed n more rest range same
+    by_sign [] false n more rest first missed range same = missed 1 (ended 32 1) [] (omega arith, omega arith) (sym (append-nil (ended 32 1)))
+    by_sign (byte ∷ text) false n more rest first missed range same = first (ap (λ bytes. slice_index bytes 0) same)
 
-ten_to : (count : ℕ) → count ≤ 9 → 10 ^ count ≤ 10 ^ 9
-ten_to count few = pow-le-pow_right {n = 10} (omega arith) few
+id_of : ℕ → ClauseId
+id_of n = record { 0 = n }
 
-pub AreRead-small : (text : List ℕ) (count value : ℕ) → AreRead text count value → count ≤ length text → value < 10 ^ count
-AreRead-small text count value read within = omega (arith, read.value_is, digits_value-lt 10 (take count text) read.digits, ap (λ n. 10 ^ n) (length-take-le count text within))
+-- a missed number of a log is a missed number of a clause
+pub id_misses : (text : List ℕ) (miss : Miss) → Misses IsLogNumber (ended 32) text miss → Misses (λ id. IsLogNumber id.0) (blanked number_text) text miss
+unfolding NeverBegins id_of
+id_misses text Short missed = record { item = id_of missed.item; more = missed.more; fits = missed.fits; goes_on = missed.goes_on; too_early = missed.too_early }
+id_misses text Wrong missed = λ id more rest range same. missed id.0 more rest range same
 
--- the digits and the blank behind them are a number
-pub AreRead-number : (text : List ℕ) (count value : ℕ) → AreRead text count value → 0 < count → count < length text → get_or text count 0 ≡ 32 → IsLogNumber value × (text ≡ decimal value ++ 32 ∷ drop (count + 1) text)
-AreRead-number text count value read some within blank =
-    let length_is : length (take count text) ≡ count = length-take-le count text (omega arith) in
-    let small : value < 10 ^ 9 = omega (arith, AreRead-small text count value read (omega arith), ten_to count read.at_most_nine) in
-    let first : get_or (take count text) 0 0 ≡ get_or text 0 0 = get_or-take count text 0 0 some in
-    let digits : decimal value ≡ take count text = ap decimal read.value_is ∙ decimal-digits_value (numerals_by_value (AllDigits 10) tells_digits) (take count text) read.digits (omega arith) (λ zero_first. absurd (omega (arith, read.no_zero some))) (omega (arith, read.value_is)) in
-    let not_zero : value ≢ 0 = λ zero_is. omega (arith, read.no_zero some, ap (λ ds. get_or ds 0 0) (sym digits ∙ (ap decimal zero_is ∙ decimal_digit 0 (omega arith)))) in
-    let rest : drop count text ≡ 32 ∷ drop (count + 1) text = drop_more text count 0 within ∙ ap (λ byte. byte ∷ drop (count + 1) text) blank in
-    ((omega arith, omega arith), sym (ap (λ front. front ++ 32 ∷ drop (count + 1) text) digits ∙ (ap (λ back. take count text ++ back) (sym rest) ∙ take-append-drop count text)))
+-- the byte that stands first, and what follows it
+pub begins : (byte : ℕ) (text : List ℕ) → 0 < byte → slice_index text 0 ≡ byte → text ≡ byte ∷ drop 1 text
+begins byte [] some never = absurd (omega arith)
+begins byte (b ∷ text) some is = ap (λ first. first ∷ text) is
 
--- what is read doesn't go on as a number does
-pub AreRead-blank : (text : List ℕ) (digits : ℕ) → HasNumber text digits → get_or text 0 0 ≡ 32 → ⊥
-AreRead-blank text digits has blank = omega (arith, has.no_zero)
+-- what the test of an empty text tells
+pub some_left : (text : List ℕ) (empty : Bool) → empty ≡ nat_eq (length text) 0 → empty ≡ false → 0 < length text
+some_left [] empty is not_empty = let never : true ≡ false = sym is ∙ not_empty in cc
+some_left (b ∷ text) empty is not_empty = omega arith
 
-pub AreRead-past : (text : List ℕ) (digits count value : ℕ) → HasNumber text digits → AreRead text count value → length text ≤ count → ⊥
-AreRead-past text digits count value has read past = omega (arith, has.within, has.blank, (read.all digits (omega (arith, has.within))).0)
+pub none_left : (text : List ℕ) (empty : Bool) → empty ≡ nat_eq (length text) 0 → empty ≡ true → length text ≡ 0
+none_left [] empty is all = refl
+none_left (b ∷ text) empty is all = eqb-true (length (b ∷ text)) 0 (sym is ∙ all)
 
-pub AreRead-stops : (text : List ℕ) (digits count value : ℕ) → HasNumber text digits → AreRead text count value → get_or text count 0 ≢ 32 → ¬ ((48 ≤ get_or text count 0) × (get_or text count 0 ≤ 57) × (count < 9) × (count ≡ 0 → get_or text count 0 ≢ 48)) → ⊥
-AreRead-stops text digits count value has read no_blank stops = elim (cases_lt count digits) [
-  | inl before ↦ stops ((has.all count before).0, (has.all count before).1, omega (arith, has.at_most_nine), λ first zero_is. omega (arith, has.no_zero, ap (λ k. get_or text k 0) first))
-  | inr behind ↦ elim (cases_eq count digits) [
-    | inl here ↦ no_blank (ap (λ k. get_or text k 0) here ∙ has.blank)
-    | inr past ↦ omega (arith, has.blank, (read.all digits (omega arith)).0)
-  ]
-]
-
--- there is room for one digit more
-pub AreRead-room : (text : List ℕ) (count value : ℕ) → AreRead text count value → count ≤ length text → count < 9 → value < 10 ^ 8
-AreRead-room text count value read within few = omega (arith, AreRead-small text count value read within, pow-le-pow_right {n = 10} (omega arith) {i = count} {j = 8} (omega arith))
+pub empty_is : (text : List ℕ) (empty : Bool) → empty ≡ nat_eq (length text) 0 → length text ≡ 0 → empty ≡ true
+empty_is [] empty is none = is
+empty_is (b ∷ text) empty is none = absurd (omega arith)

@@ -1,3 +1,4 @@
+//! Why a line of a log is not read.
 use thiserror::Error;
 
 /// Why a line isn't read.
@@ -6,6 +7,7 @@ pub enum LineFault {
     /// No step has this text.
     #[error("the line is no step of a derivation")]
     BadLine,
+    /// There was no memory for the step.
     #[error("out of memory")]
     Memory,
 }

@@ -1,42 +1,60 @@
-// The lists of a step.
-ghost use Rattle.std.specs.Prelude.{◌≡◌, ◌≢◌, ◌↔◌, ℕ, List, ◌++◌, All, IfOk, IsTrue, slice_index};
+//! The lists of a step: tested without memory, then read with room for their words.
+ghost use Rattle.std.specs.Prelude.{◌≡◌, ◌++◌, All, IfOk, IfErr};
+ghost use Rattle.vss_text.specs.Reading.{Misses};
 ghost use Rattle.derivation_log.specs.Text.{list_text};
+ghost use Rattle.derivation_log.specs.Tested.{IsList, IsListOf};
 
-use crate::line_fault::LineFault;
 use crate::word::Word;
-use std::alloc::Global;
+use std::alloc::{AllocError, Global};
 use vss_lists::Items;
+use vss_text::Miss;
 
-// The words at the front of the text, and what follows the 0 behind them. Takes room for the words once: each has at
-// least one byte and a blank.
-pub(crate) fn read_list<W: Word>(alloc: Global, text: &[u8]) -> Result<(Items<W>, &[u8]), LineFault>
-    ensures found { IfOk result (λ found. All W.in_range found.0 × (text.now ≡ list_text W.spelled found.0 ++ found.1.now)) }
-    ensures only { IfOk result (λ found. (words : List W) (rest : List ℕ) → All W.in_range words → text.now ≡ list_text W.spelled words ++ rest → (words ≡ found.0) × (rest ≡ found.1.now)) }
-    ensures bad { result ≡ Err LineFault.BadLine → (words : List W) (rest : List ℕ) → All W.in_range words → text.now ≢ list_text W.spelled words ++ rest }
-{
-    let mut words = match Vec::with_capacity(alloc, text.len() / 2) {
-        Ok(words) => words,
-        Err(_) => return Err(LineFault::Memory),
-    };
-    let mut rest = text;
-    while !begins_with_zero(rest) {
-        match W::read(rest) {
-            Some((word, after)) => {
-                match words.push(word) {
-                    Ok(()) => {}
-                    Err(_) => return Err(LineFault::Memory),
-                }
-                rest = after;
-            }
-            None => return Err(LineFault::BadLine),
-        }
-    }
-    words.shrink_to_fit();
-    Ok((Items::from_vec(words), &rest[1..]))
+/// The text of a list that is well formed, up to the 0 behind its words, and how many words it has.
+#[derive(Clone, Copy, Debug)]
+pub struct ListText<'a> {
+    pub(crate) text: &'a [u8],
+    pub(crate) count: usize,
 }
 
-fn begins_with_zero(text: &[u8]) -> bool
-    ensures { IsTrue result ↔ (slice_index text.now 0 ≡ 48) }
+/// The list at the front of the text, and what follows the 0 behind its words. One pass.
+pub(crate) fn test_list<W: Word>(text: &[u8]) -> Result<(ListText<'_>, &[u8]), Miss>
+    ensures list { IfOk result (λ found. IsList W.spelled W.in_range found.0) }
+    ensures found { IfOk result (λ found. text.now ≡ found.0.text.now ++ found.1.now) }
+    ensures missed { IfErr result (Misses (All W.in_range) (list_text W.spelled) text.now) }
 {
-    text.first() == Some(&b'0')
+    let mut count = 0;
+    let mut rest = text;
+    while !rest.is_empty() {
+        if rest[0] == b'0' {
+            let (text, rest) = text.split_at(text.len() - rest.len() + 1);
+            return Ok((ListText { text, count }, rest));
+        }
+        match W::read(rest) {
+            Ok((_, after)) => {
+                rest = after;
+                count += 1;
+            }
+            Err(miss) => return Err(miss),
+        }
+    }
+    Err(Miss::Short)
+}
+
+/// The words of the list. Takes room for just them.
+pub(crate) fn read_list<W: Word>(alloc: Global, list: &ListText<'_>) -> Result<Items<W>, AllocError>
+    requires { IsList W.spelled W.in_range list.now }
+    ensures { IfOk result (λ words. All W.in_range words × IsListOf W.spelled list.now words) }
+{
+    let mut words = Vec::with_capacity(alloc, list.count)?;
+    let mut rest = list.text;
+    for _ in 0..list.count {
+        match W::read(rest) {
+            Ok((word, after)) => {
+                words.push(word)?;
+                rest = after;
+            }
+            Err(_) => unreachable!(),
+        }
+    }
+    Ok(Items::from_vec(words))
 }

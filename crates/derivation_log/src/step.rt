@@ -1,3 +1,4 @@
+//! Steps of a derivation, logs of them, and what a log is to refute.
 use sat_core::{ClauseId, Lit};
 use vss_lists::Items;
 

@@ -1,4 +1,5 @@
-use crate::{LineFault, Step, read_step, write_step};
+//! Lines of steps, read and written.
+use crate::{LineFault, Step, is_front_of_step, read_step, write_step};
 use sat_core::{ClauseId, Lit, Var};
 use std::test::Fail;
 use vss_io::MemSink;
@@ -51,53 +52,61 @@ fn reads_the_numbers_and_signs_of_a_line(rt: HostRuntime) -> Result<(), Fail> {
     Ok(())
 }
 
+/// Lines that are no step's, and whether each is a front of one.
+static OTHER_LINES: [(&str, bool); 36] = [
+    ("", true),
+    ("a", true),
+    ("a ", true),
+    ("a 2", true),
+    ("a 28 0", true),
+    ("a 28 0 ", true),
+    ("a 28 0 7", true),
+    ("a 28 -", true),
+    ("a 28 5 -6 0 7 8 ", true),
+    ("d", true),
+    ("d ", true),
+    ("d 7", true),
+    ("a28 0 7 0", false),
+    ("A 28 0 7 0", false),
+    ("b 7 0", false),
+    (" a 28 0 7 0", false),
+    ("a  28 0 7 0", false),
+    ("a 0 0 7 0", false),
+    ("a 028 0 7 0", false),
+    ("a 1000000000 0 7 0", false),
+    ("a -28 0 7 0", false),
+    ("a 28 -0 0 7 0", false),
+    ("a 28 00 7 0", false),
+    ("a 28 +5 0 7 0", false),
+    ("a 28 --5 0 7 0", false),
+    ("a 28 5- 0 7 0", false),
+    ("a 28 5  6 0 7 0", false),
+    ("a 28 0 -7 0", false),
+    ("a 28 0 7 0 ", false),
+    ("a 28 0 7 0 0", false),
+    ("a 28 0 7 0\r", false),
+    ("d -7 0", false),
+    ("d 07 0", false),
+    ("d 7 0 ", false),
+    ("d 7 0 0", false),
+    ("e 7 0", false),
+];
+
 #[test]
-fn refuses_other_lines(rt: HostRuntime) -> Result<(), Fail> {
-    let lines = [
-        "",
-        "a",
-        "a ",
-        "a28 0 7 0",
-        "A 28 0 7 0",
-        "b 7 0",
-        " a 28 0 7 0",
-        "a  28 0 7 0",
-        "a 0 0 7 0",
-        "a 028 0 7 0",
-        "a 1000000000 0 7 0",
-        "a -28 0 7 0",
-        "a 28 -0 0 7 0",
-        "a 28 00 7 0",
-        "a 28 +5 0 7 0",
-        "a 28 --5 0 7 0",
-        "a 28 5- 0 7 0",
-        "a 28 5  6 0 7 0",
-        "a 28 0",
-        "a 28 0 ",
-        "a 28 0 7",
-        "a 28 0 -7 0",
-        "a 28 0 7 0 ",
-        "a 28 0 7 0 0",
-        "a 28 0 7 0\r",
-        "d",
-        "d ",
-        "d 7",
-        "d -7 0",
-        "d 07 0",
-        "d 7 0 ",
-        "d 7 0 0",
-    ];
-    for line in lines {
+fn refuses_other_lines_and_tells_fronts(rt: HostRuntime) -> Result<(), Fail> {
+    for (line, is_front) in &OTHER_LINES {
         match read_step(rt.alloc(), line.as_bytes()) {
             Err(fault) => assert_eq!(rt; fault, LineFault::BadLine, "{line}"),
             Ok(step) => assert!(rt; false, "{line} is read as {step:?}"),
         }
+        assert_eq!(rt; is_front_of_step(line.as_bytes()), *is_front, "{line}");
     }
+    assert!(rt; is_front_of_step(b"a 28 0 7 0"));
     Ok(())
 }
 
 #[test]
-fn puts_a_long_step_in_pieces_and_stops_at_a_failed_put(rt: HostRuntime) -> Result<(), Fail> {
+fn puts_a_long_step_in_pieces_and_reads_it_back(rt: HostRuntime) -> Result<(), Fail> {
     let mut lits = Items::new(rt.alloc());
     let mut expected = b"a 1 ".to_vec(rt.alloc())?;
     for variable in 100_000..102_000 {
@@ -123,6 +132,19 @@ fn puts_a_long_step_in_pieces_and_stops_at_a_failed_put(rt: HostRuntime) -> Resu
         );
         assert!(rt; size <= expected.len());
         assert_eq!(rt; out.written(), &expected[..size], "{failing}");
+    }
+    let line = expected.len() - 1;
+    match read_step(rt.alloc(), &expected[..line])? {
+        Step::Add { id, lits, hints } => {
+            assert_eq!(rt; id, ClauseId(1));
+            assert_eq!(rt; lits.len(), 2000);
+            for (place, lit) in lits.as_slice().iter().enumerate() {
+                assert_eq!(rt; lit.var.0 as usize, 100_000 + place);
+                assert!(rt; lit.positive);
+            }
+            assert!(rt; hints.is_empty());
+        }
+        Step::Drop { ids } => assert!(rt; false, "{ids:?}"),
     }
     Ok(())
 }

@@ -1,13 +1,15 @@
-// The words of a step's lists.
-ghost use Rattle.std.specs.Prelude.{◌≡◌, ◌≢◌, ℕ, List, ◌∷◌, ◌++◌, IfSome, IfNone, OnOk, OnErr, [], ◌≤◌, slice_index};
-ghost use Rattle.vss_io.specs.Faults.{Rose};
-ghost use Rattle.vss_io.specs.Written.{PutsFront, PutsAllBut};
+//! The words of a step's lists.
+ghost use Rattle.std.specs.Prelude.{◌≡◌, ◌≢◌, ℕ, List, ◌∷◌, ◌++◌, [], IfOk, IfErr, slice_index};
+ghost use Rattle.vss_io.specs.Written.{PrintsAllBut};
+ghost use Rattle.vss_text.specs.Reading.{Misses};
+ghost use Rattle.derivation_log.specs.Text.{blanked};
 
 use crate::number::{add_number, number};
 use sat_core::{ClauseId, Lit, Var};
 use vss_io::{LineBuf, Sink, SinkFault};
+use vss_text::{Miss, begins_with};
 
-// A word of a list, which is read with the blank behind it.
+/// A word of a list, which is read with the blank behind it.
 pub(crate) trait Word: Sized + Drop {
     ghost use Rattle.std.specs.Prelude.{ℕ, List};
 
@@ -15,19 +17,17 @@ pub(crate) trait Word: Sized + Drop {
 
     ghost in_range: { Self → Type 0 };
 
-    // The word at the front of the text, and what follows the blank behind it.
-    fn read(text: &[u8]) -> Option<(Self, &[u8])>
-        ensures found { IfSome result (λ found. in_range found.0 × (text.now ≡ spelled found.0 ++ 32 ∷ found.1.now)) }
-        ensures missing { IfNone result ((word : Self) (rest : List ℕ) → in_range word → text.now ≢ spelled word ++ 32 ∷ rest) };
+    /// The word at the front of the text, and what follows the blank behind it.
+    fn read(text: &[u8]) -> Result<(Self, &[u8]), Miss>
+        ensures in_range { IfOk result (λ found. in_range found.0) }
+        ensures found { IfOk result (λ found. text.now ≡ spelled found.0 ++ 32 ∷ found.1.now) }
+        ensures missed { IfErr result (Misses in_range (blanked spelled) text.now) };
 
-    // Adds the word and the blank behind it to a line.
+    /// Adds the word and the blank behind it to a line.
     fn add<K: Sink>(&self, text: &mut LineBuf, out: &mut K) -> Result<(), SinkFault>
-        ensures front { PutsFront (K.written out.old) (K.written out.new) (text.old ++ (spelled self.now ++ 32 ∷ [])) }
-        ensures added { OnOk result (PutsAllBut (K.written out.old) (K.written out.new) text.new (text.old ++ (spelled self.now ++ 32 ∷ []))) }
-        ensures never_falls { K.faults out.old ≤ K.faults out.new }
-        ensures cause { OnErr result (Rose (K.faults out.old) (K.faults out.new)) };
+        ensures { PrintsAllBut (K.shown out.old) (K.shown out.new) text.new (text.old ++ (spelled self.now ++ 32 ∷ [])) result };
 
-    // No word begins as the end of a list does, and no text begins with two words.
+    // no word begins as the end of a list does, and no text begins with two words.
     ghost no_zero: { (word : Self) (rest : List ℕ) → in_range word → slice_index (spelled word ++ 32 ∷ rest) 0 ≢ 48 };
 
     ghost one_reading: { (one other : Self) (rest rest' : List ℕ) → in_range one → in_range other → spelled one ++ 32 ∷ rest ≡ spelled other ++ 32 ∷ rest' → (one ≡ other) × (rest ≡ rest') };
@@ -35,16 +35,16 @@ pub(crate) trait Word: Sized + Drop {
 
 impl Word for ClauseId {
     ghost use Rattle.derivation_log.specs.Text.{number_text, IsLogNumber};
-    ghost use Rattle.derivation_log.specs.WordLaws.{number_no_zero, number_one_reading};
+    ghost use Rattle.derivation_log.specs.WordLaws.{id_no_zero, id_one_reading};
 
     ghost spelled = { number_text };
 
     ghost in_range = { λ id. IsLogNumber id.0 };
 
-    fn read(text: &[u8]) -> Option<(ClauseId, &[u8])> {
+    fn read(text: &[u8]) -> Result<(ClauseId, &[u8]), Miss> {
         match number(text) {
-            Some((value, rest)) => Some((ClauseId(value), rest)),
-            None => None,
+            Ok((value, rest)) => Ok((ClauseId(value), rest)),
+            Err(miss) => Err(miss),
         }
     }
 
@@ -52,9 +52,9 @@ impl Word for ClauseId {
         add_number(self.0, text, out)
     }
 
-    ghost no_zero = { number_no_zero };
+    ghost no_zero = { id_no_zero };
 
-    ghost one_reading = { number_one_reading };
+    ghost one_reading = { id_one_reading };
 }
 
 impl Word for Lit {
@@ -65,16 +65,16 @@ impl Word for Lit {
 
     ghost in_range = { λ lit. IsLogNumber lit.var.0 };
 
-    fn read(text: &[u8]) -> Option<(Lit, &[u8])> {
-        match text.split_first() {
-            Some((b'-', behind)) => match number(behind) {
-                Some((value, rest)) => Some((literal(value, false), rest)),
-                None => None,
-            },
-            _ => match number(text) {
-                Some((value, rest)) => Some((literal(value, true), rest)),
-                None => None,
-            },
+    fn read(text: &[u8]) -> Result<(Lit, &[u8]), Miss> {
+        if begins_with(text, b'-') {
+            return match number(&text[1..]) {
+                Ok((value, rest)) => Ok((literal(value, false), rest)),
+                Err(miss) => Err(miss),
+            };
+        }
+        match number(text) {
+            Ok((value, rest)) => Ok((literal(value, true), rest)),
+            Err(miss) => Err(miss),
         }
     }
 

@@ -43,6 +43,13 @@ classes_from_groups p borders segments barriers groups cells are len by_reach by
           let here : slice_index groups k ≤ k = (by_lowest k within).lowest k (Reaches-refl (Touch segments barriers) k) in
           let same : get_or groups k d ≡ slice_index groups k = get_or_default groups k d 0 within in
           omega arith;
+      by_lowest = λ e he.
+          let by = by_lowest e.0 (omega arith) in
+          let number : ℕ = slice_index groups e.0 in
+          record {
+            linked = (linked_as_reached p borders barriers are (record { 0 = number }) e).1 (subst (λ s. Reaches (Touch s barriers) number e.0) cells by.reaches);
+            lowest = λ f linked. by.lowest f.0 (subst (λ s. Reaches (Touch s barriers) f.0 e.0) (sym cells) ((linked_as_reached p borders barriers are f e).0 linked));
+          };
       same_where_linked = λ e f he hf.
           let reached : (slice_index groups e.0 ≡ slice_index groups f.0) ↔ Reaches (Touch (map segment_of p.cells) barriers) e.0 f.0 =
           subst (λ s. (slice_index groups e.0 ≡ slice_index groups f.0) ↔ Reaches (Touch s barriers) e.0 f.0) cells

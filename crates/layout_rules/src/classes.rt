@@ -1,3 +1,5 @@
+//! The classes of cells that are linked under a layout.
+
 ghost use Rattle.std.specs.Prelude.{◌≡◌, ◌<◌, ◌↔◌, IfOk, IsTrue, length};
 ghost use Rattle.cell_net.specs.Borders.{IsBorderSet};
 ghost use Rattle.layout_rules.specs.Classes.{AreClasses, class_of};

@@ -1,11 +1,11 @@
+//! Track paths: lists of directed cells that a train can take.
+
 ghost use Rattle.std.specs.Prelude.{◌≡◌, ◌≢◌, ◌<◌, ◌↔◌, All, AllPairs, IsTrue, false, length, slice_index_or, ℕ};
 ghost use Rattle.std.specs.List.{AllAdjacentBelow};
 ghost use Rattle.cell_net.specs.Space.{Follows, IsCell, IsTrackPath};
 
+use cell_net::limits::CELLS;
 use cell_net::{CellId, DirCell, Instance};
-
-/// No instance has more cells.
-const CELLS: usize = 1_000;
 
 /// Whether the cells are a track path; linear, without memory.
 pub(crate) fn is_track_path(inst: &Instance, cells: &[DirCell]) -> bool
@@ -45,8 +45,9 @@ fn have_no_cell_twice(inst: &Instance, cells: &[DirCell]) -> bool
     requires { All (λ d. IsCell inst.now d.cell) cells.now }
     ensures { IsTrue result ↔ AllPairs (λ c d. c.cell ≢ d.cell) cells.now }
 {
-    let _parts = inst.parts();
-    let mut seen = nothing_seen();
+    let count = inst.cell_count() as usize;
+    let mut table = nothing_seen();
+    let seen = &mut table[..count];
     for directed in cells {
         let place = directed.cell.0 as usize;
         if seen[place] {
@@ -57,8 +58,9 @@ fn have_no_cell_twice(inst: &Instance, cells: &[DirCell]) -> bool
     true
 }
 
-fn nothing_seen() -> [bool; CELLS]
+/// A mark for each cell of any instance.
+fn nothing_seen() -> [bool; CELLS as usize]
     ensures { (cell : ℕ) → slice_index_or result cell false ≡ false }
 {
-    [false; CELLS]
+    [false; CELLS as usize]
 }

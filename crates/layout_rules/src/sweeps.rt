@@ -1,3 +1,5 @@
+//! Sweeps: what a train touches in one step.
+
 ghost use Rattle.std.specs.Prelude.{◌≡◌, ◌<◌, ◌↔◌, All, IsTrue, MatchOption, Some, length, slice_get};
 ghost use Rattle.cell_net.specs.Runs.{IsSlowEnough, IsSweep, IsWithinLimit};
 ghost use Rattle.cell_net.specs.Space.{IsCell};

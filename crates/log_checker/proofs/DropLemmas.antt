@@ -53,6 +53,7 @@ not_named (id ∷ ids) number none (suc k) d within same =
 pub DropsAlso-none : (numbers : List ClauseId) (old : Dropped) → DropsAlso numbers old old []
 DropsAlso-none numbers old = record {
   same_own = refl;
+  same_size = refl;
   here = λ place within. sym (or-false (is_dropped old place));
   behind = λ place past. refl;
 }
@@ -66,6 +67,7 @@ CanDrop-none numbers old = record {
 pub DropsAlso-more : (numbers : List ClauseId) (old now next : Dropped) (ids : List ClauseId) (id : ClauseId) → DropsAlso numbers old now ids → DropsAlso numbers now next (id ∷ []) → DropsAlso numbers old next (ids ++ id ∷ [])
 DropsAlso-more numbers old now next ids id first second = record {
   same_own = second.same_own ∙ first.same_own;
+  same_size = second.same_size ∙ first.same_size;
   here = λ place within.
       let number : ℕ = number_at old.own numbers place in
       let step : is_dropped next place ≡ (is_dropped now place || is_named (id ∷ []) number) = subst (λ own. is_dropped next place ≡ (is_dropped now place || is_named (id ∷ []) (number_at own numbers place))) first.same_own (second.here place (subst (λ own. place < own + length numbers) (sym first.same_own) within)) in
@@ -121,6 +123,7 @@ pub SameDrops-revived : (numbers : List ClauseId) (last : ℕ) (old now back : D
 unfolding IsLiveNumber
 SameDrops-revived numbers last old now back ids ascends can drops revives = record {
   same_own = revives.same_own ∙ drops.same_own;
+  same_size = revives.same_size ∙ drops.same_size;
   same = λ place. elim (cases_lt place (old.own + length numbers)) [
     | inl within ↦
         let number : ℕ = number_at old.own numbers place in
@@ -144,6 +147,7 @@ SameDrops-revived numbers last old now back ids ascends can drops revives = reco
 pub Revives-none : (numbers : List ClauseId) (old : Dropped) → Revives numbers old old []
 Revives-none numbers old = record {
   same_own = refl;
+  same_size = refl;
   here = λ place within. sym (and-true (is_dropped old place));
   behind = λ place past. refl;
 }
@@ -151,6 +155,7 @@ Revives-none numbers old = record {
 pub Revives-more : (numbers : List ClauseId) (old now next : Dropped) (ids : List ClauseId) (id : ClauseId) → Revives numbers old now ids → Revives numbers now next (id ∷ []) → Revives numbers old next (ids ++ id ∷ [])
 Revives-more numbers old now next ids id first second = record {
   same_own = second.same_own ∙ first.same_own;
+  same_size = second.same_size ∙ first.same_size;
   here = λ place within.
       let number : ℕ = number_at old.own numbers place in
       let step : is_dropped next place ≡ (is_dropped now place && not (is_named (id ∷ []) number)) = subst (λ own. is_dropped next place ≡ (is_dropped now place && not (is_named (id ∷ []) (number_at own numbers place)))) first.same_own (second.here place (subst (λ own. place < own + length numbers) (sym first.same_own) within)) in
@@ -167,16 +172,18 @@ Revives-more numbers old now next ids id first second = record {
     both false c d = refl
 
 -- one clause dropped, and one revived
-pub DropsAlso-one : (numbers : List ClauseId) (last : ℕ) (old new : Dropped) (id : ClauseId) (place : ℕ) → AscendsTo old.own numbers last → place < old.own + length numbers → number_at old.own numbers place ≡ id.0 → new.own ≡ old.own → ((other : ℕ) → is_dropped new other ≡ (is_dropped old other || nat_eq other place)) → DropsAlso numbers old new (id ∷ [])
-DropsAlso-one numbers last old new id place ascends within is own drops = record {
+pub DropsAlso-one : (numbers : List ClauseId) (last : ℕ) (old new : Dropped) (id : ClauseId) (place : ℕ) → AscendsTo old.own numbers last → place < old.own + length numbers → number_at old.own numbers place ≡ id.0 → new.own ≡ old.own → length new.flags.items ≡ length old.flags.items → ((other : ℕ) → is_dropped new other ≡ (is_dropped old other || nat_eq other place)) → DropsAlso numbers old new (id ∷ [])
+DropsAlso-one numbers last old new id place ascends within is own size drops = record {
   same_own = own;
+  same_size = size;
   here = λ other within'. drops other ∙ ap (λ b. is_dropped old other || b) (sym (place_named old.own numbers last place other id ascends within is within'));
   behind = λ other past. drops other ∙ (ap (λ b. is_dropped old other || b) (ne_eqb other place (λ same. omega arith)) ∙ or-false (is_dropped old other));
 }
 
-pub Revives-one : (numbers : List ClauseId) (last : ℕ) (old new : Dropped) (id : ClauseId) (place : ℕ) → AscendsTo old.own numbers last → place < old.own + length numbers → number_at old.own numbers place ≡ id.0 → new.own ≡ old.own → ((other : ℕ) → is_dropped new other ≡ (is_dropped old other && not (nat_eq other place))) → Revives numbers old new (id ∷ [])
-Revives-one numbers last old new id place ascends within is own drops = record {
+pub Revives-one : (numbers : List ClauseId) (last : ℕ) (old new : Dropped) (id : ClauseId) (place : ℕ) → AscendsTo old.own numbers last → place < old.own + length numbers → number_at old.own numbers place ≡ id.0 → new.own ≡ old.own → length new.flags.items ≡ length old.flags.items → ((other : ℕ) → is_dropped new other ≡ (is_dropped old other && not (nat_eq other place))) → Revives numbers old new (id ∷ [])
+Revives-one numbers last old new id place ascends within is own size drops = record {
   same_own = own;
+  same_size = size;
   here = λ other within'. drops other ∙ ap (λ b. is_dropped old other && not b) (sym (place_named old.own numbers last place other id ascends within is within'));
   behind = λ other past. drops other ∙ (ap (λ b. is_dropped old other && not b) (ne_eqb other place (λ same. omega arith)) ∙ and-true (is_dropped old other));
 }
@@ -184,6 +191,7 @@ Revives-one numbers last old new id place ascends within is own drops = record {
 pub Revives-missing : (numbers : List ClauseId) (old : Dropped) (id : ClauseId) → ((place : ℕ) → place < old.own + length numbers → number_at old.own numbers place ≢ id.0) → Revives numbers old old (id ∷ [])
 Revives-missing numbers old id none = record {
   same_own = refl;
+  same_size = refl;
   here = λ place within. sym (ap (λ b. is_dropped old place && not b) (none_named old.own numbers place id (none place within)) ∙ and-true (is_dropped old place));
   behind = λ place past. refl;
 }
@@ -206,6 +214,7 @@ IsLiveNumber-missing numbers dropped id none (place, within, is, stands) = none 
 pub DropsAlso-same : (numbers : List ClauseId) (old now same : Dropped) (ids : List ClauseId) → DropsAlso numbers old now ids → SameDrops now same → DropsAlso numbers old same ids
 DropsAlso-same numbers old now same ids drops alike = record {
   same_own = alike.same_own ∙ drops.same_own;
+  same_size = alike.same_size ∙ drops.same_size;
   here = λ place within. alike.same place ∙ drops.here place within;
   behind = λ place past. alike.same place ∙ drops.behind place past;
 }

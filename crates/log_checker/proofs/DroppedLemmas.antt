@@ -1,5 +1,5 @@
 -- Laws of flags past whose end all count as not set.
-use Rattle.std.proofs.Common.{◌≡◌, ℕ, zero, suc, ◌<◌, Bool, true, false, not, ◌&&◌, ◌||◌, inl, inr, List, [], ◌∷◌, ◌++◌, length, get_or, set, replicate, refl, ap, sym, ◌∙◌}
+use Rattle.std.proofs.Common.{◌≡◌, ℕ, zero, suc, ◌<◌, Bool, true, false, not, ◌&&◌, ◌||◌, inl, inr, List, [], ◌∷◌, length, get_or, set, replicate, refl, ap, sym, ◌∙◌}
 use Rattle.std.specs.Prelude.{nat_eq}
 use Rattle.std.proofs.lemmas.List.{get_or-set_same, get_or-set_other}
 use Rattle.std.proofs.lemmas.Bool.{cases_eq, eq-eqb, ne_eqb}
@@ -22,14 +22,9 @@ flag_unset flags place other = elim (cases_eq other place) [
   | inr differs ↦ get_or-set_other flags place other false false differs ∙ sym (ap (λ b. get_or flags other false && not b) (ne_eqb other place differs) ∙ and-true (get_or flags other false))
 ]
 
-all_unset : (n other : ℕ) → get_or (replicate n false) other false ≡ false
+pub all_unset : (n other : ℕ) → get_or (replicate n false) other false ≡ false
 all_unset zero other = refl
 all_unset (suc n) zero = refl
 all_unset (suc n) (suc other) = all_unset n other
 
-pub flags_longer : (flags : List Bool) (n : ℕ) (other : ℕ) → get_or (flags ++ replicate n false) other false ≡ get_or flags other false
-flags_longer [] n other = all_unset n other
-flags_longer (b ∷ flags) n zero = refl
-flags_longer (b ∷ flags) n (suc other) = flags_longer flags n other
-
-pub ruleset dropped_laws = (flag_set, flag_unset, flags_longer)
+pub ruleset dropped_laws = (flag_set, flag_unset, all_unset)

@@ -1,6 +1,6 @@
 -- Drops of clauses, as the definitions of derivations see them.
 use Rattle.std.proofs.Common.{◌≡◌, ℕ, suc, ◌<◌, Bool, true, false, cond, List, [], ◌∷◌, length, refl, ap, ◌∙◌, arith}
-use Rattle.std.specs.Prelude.{Result, Ok, Err, OnOk, nat_eq, Some, IsSome, is_some, find, option_map, slice_get}
+use Rattle.std.specs.Prelude.{Result, Ok, Err, OnOk, OnErr, nat_eq, Some, IsSome, is_some, find, option_map, slice_get}
 use Rattle.std.proofs.lemmas.Bool.{eqb-true}
 use Rattle.std.proofs.lemmas.List.Elements.{All-weaker}
 use Rattle.std.proofs.lemmas.Option.{slice_get-get_or}
@@ -64,7 +64,7 @@ pub AreNumbered-dropped : (numbers : List ClauseId) (last : ℕ) (old new : Drop
 AreNumbered-dropped numbers last old new clauses ids numbered also = record {
   all_clauses = rw also.same_own numbered.all_clauses;
   ascending = rw also.same_own numbered.ascending;
-  none_behind = λ place past. also.behind place (omega (arith, numbered.all_clauses)) ∙ numbered.none_behind place past;
+  all_flags = also.same_size ∙ numbered.all_flags;
   fits = numbered.fits;
 }
 
@@ -72,10 +72,14 @@ pub AreNumbered-same : (numbers : List ClauseId) (last : ℕ) (old new : Dropped
 AreNumbered-same numbers last old new clauses numbered same = record {
   all_clauses = rw same.same_own numbered.all_clauses;
   ascending = rw same.same_own numbered.ascending;
-  none_behind = λ place past. same.same place ∙ numbered.none_behind place past;
+  all_flags = same.same_size ∙ numbered.all_flags;
   fits = numbered.fits;
 }
 
 pub on_ok : {T E : Type 0} (r : Result T E) (P Q : Type 0) → (P → Q) → OnOk r P → OnOk r Q
 on_ok (Ok x) P Q f holds = f holds
 on_ok (Err e) P Q f holds = holds
+
+pub on_err : {T E : Type 0} (r : Result T E) (P Q : Type 0) → (P → Q) → OnErr r P → OnErr r Q
+on_err (Ok x) P Q f holds = holds
+on_err (Err e) P Q f holds = f holds

@@ -1,10 +1,10 @@
-pub mod AssignedLemmas
-pub mod DropLemmas
-pub mod DroppedLemmas
-pub mod EndLemmas
-pub mod HintLemmas
-pub mod JudgeLemmas
-pub mod LiveLemmas
-pub mod NumberLemmas
-pub mod StoreLemmas
-pub mod VerdictLemmas
+mod AssignedLemmas
+mod DropLemmas
+mod DroppedLemmas
+mod EndLemmas
+mod HintLemmas
+mod LiveLemmas
+mod NumberLemmas
+mod OpenLemmas
+mod StoreLemmas
+mod VerdictLemmas

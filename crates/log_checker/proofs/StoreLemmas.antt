@@ -1,5 +1,5 @@
 -- What the stored clauses tell about the live ones.
-use Rattle.std.proofs.Common.{◌≡◌, ◌≢◌, ℕ, ◌+◌, ◌-◌, ◌^◌, ◌<◌, ◌≤◌, true, false, inl, inr, List, [], ◌∷◌, ◌++◌, length, get_or, refl, ap, sym, ◌∙◌, arith}
+use Rattle.std.proofs.Common.{◌≡◌, ◌≢◌, ℕ, ◌+◌, ◌-◌, ◌^◌, ◌<◌, ◌≤◌, true, false, inl, inr, List, [], ◌∷◌, ◌++◌, length, get_or, refl, ap, sym, subst, ◌∙◌, arith}
 use Rattle.std.specs.Prelude.{None, slice_get}
 use Rattle.std.proofs.lemmas.Bool.{cases_eq, cases_lt}
 use Rattle.std.proofs.lemmas.Option.{slice_get-get_or}
@@ -22,11 +22,11 @@ database_of-first vars last numbers dropped clauses empty total own none =
     let live : live_of (number_at dropped.own numbers) (is_dropped dropped) clauses ≡ numbered_from 1 clauses = live_of-first 1 (number_at dropped.own numbers) (is_dropped dropped) clauses (λ k under. number_at-own dropped.own numbers k (omega arith) ∙ omega arith) none in
     rw (total, live) refl
 
-pub AreNumbered-first : (last : ℕ) (numbers : List ClauseId) (dropped : Dropped) (clauses : List (List Lit)) → numbers ≡ [] → last ≡ length clauses → dropped.own ≡ length clauses → ((place : ℕ) → is_dropped dropped place ≡ false) → last < 2 ^ 32 → AreNumbered dropped numbers last clauses
-AreNumbered-first last numbers dropped clauses empty total own none fits = rw empty (record {
+pub AreNumbered-first : (last : ℕ) (numbers : List ClauseId) (dropped : Dropped) (clauses : List (List Lit)) → numbers ≡ [] → last ≡ length clauses → dropped.own ≡ length clauses → length dropped.flags.items ≡ length clauses → last < 2 ^ 32 → AreNumbered dropped numbers last clauses
+AreNumbered-first last numbers dropped clauses empty total own size fits = rw empty (record {
   all_clauses = omega arith;
+  all_flags = size;
   ascending = own ∙ sym total;
-  none_behind = λ place _. none place;
   fits = fits;
 })
 
@@ -85,20 +85,28 @@ number_at-last : (own : ℕ) (numbers : List ClauseId) (id : ClauseId) (place : 
 number_at-last own numbers id place is =
     number_at-log own (numbers ++ id ∷ []) place (omega arith) ∙ ap (λ (number : ClauseId). number.0) (get_or_push numbers id (record { 0 = 0 }) (place - own) (omega arith))
 
-pub AreNumbered-push : (numbers : List ClauseId) (last : ℕ) (dropped : Dropped) (clauses : List (List Lit)) (id : ClauseId) (lits : List Lit) → AreNumbered dropped numbers last clauses → last < id.0 → id.0 < 2 ^ 32 → AreNumbered dropped (numbers ++ id ∷ []) id.0 (clauses ++ lits ∷ [])
-AreNumbered-push numbers last dropped clauses id lits numbered above fits = record {
-  all_clauses = omega (arith, length_push numbers id, length_push clauses lits, numbered.all_clauses);
-  ascending = AscendsTo-push dropped.own numbers last id numbered.ascending above;
-  none_behind = λ place behind. numbered.none_behind place (omega (arith, length_push clauses lits));
+-- the flags are those of before, and one more that isn't set
+pub record OneFlagMore (old new : Dropped) : Type 0 where
+  pub same_own : new.own ≡ old.own
+  pub flags : new.flags.items ≡ old.flags.items ++ false ∷ []
+
+pub AreNumbered-push : (numbers : List ClauseId) (last : ℕ) (old new : Dropped) (clauses : List (List Lit)) (id : ClauseId) (lits : List Lit) → OneFlagMore old new → AreNumbered old numbers last clauses → last < id.0 → id.0 < 2 ^ 32 → AreNumbered new (numbers ++ id ∷ []) id.0 (clauses ++ lits ∷ [])
+AreNumbered-push numbers last old new clauses id lits more numbered above fits = record {
+  all_clauses = omega (arith, length_push numbers id, length_push clauses lits, numbered.all_clauses, more.same_own);
+  all_flags = ap length more.flags ∙ omega (arith, length_push old.flags.items false, length_push clauses lits, numbered.all_flags);
+  ascending = subst (λ own. AscendsTo own (numbers ++ id ∷ []) id.0) (sym more.same_own) (AscendsTo-push old.own numbers last id numbered.ascending above);
   fits = fits;
 }
 
-pub live_after-push : (numbers : List ClauseId) (last : ℕ) (dropped : Dropped) (clauses : List (List Lit)) (id : ClauseId) (lits : List Lit) → AreNumbered dropped numbers last clauses → live_of (number_at dropped.own (numbers ++ id ∷ [])) (is_dropped dropped) (clauses ++ lits ∷ []) ≡ live_of (number_at dropped.own numbers) (is_dropped dropped) clauses ++ record { id = id; lits = lits } ∷ []
-live_after-push numbers last dropped clauses id lits numbered =
-    let number = number_at dropped.own (numbers ++ id ∷ []) in
-    let added : number (length clauses) ≡ id.0 = number_at-last dropped.own numbers id (length clauses) (sym numbered.all_clauses) in
-    let before : live_of number (is_dropped dropped) clauses ≡ live_of (number_at dropped.own numbers) (is_dropped dropped) clauses = live_of-same (number_at dropped.own numbers) number (is_dropped dropped) (is_dropped dropped) clauses (λ k under. number_at-push dropped.own numbers id k (omega (arith, numbered.all_clauses))) (λ k under. refl) in
-    live_of-push number (is_dropped dropped) clauses lits (numbered.none_behind (length clauses) (omega arith)) ∙ rw (added, before) refl
+pub live_after-push : (numbers : List ClauseId) (last : ℕ) (old new : Dropped) (clauses : List (List Lit)) (id : ClauseId) (lits : List Lit) → OneFlagMore old new → AreNumbered old numbers last clauses → live_of (number_at new.own (numbers ++ id ∷ [])) (is_dropped new) (clauses ++ lits ∷ []) ≡ live_of (number_at old.own numbers) (is_dropped old) clauses ++ record { id = id; lits = lits } ∷ []
+live_after-push numbers last old new clauses id lits more numbered =
+    let number : ℕ → ℕ = number_at new.own (numbers ++ id ∷ []) in
+    let added : number (length clauses) ≡ id.0 = number_at-last new.own numbers id (length clauses) (omega (arith, numbered.all_clauses, more.same_own)) in
+    let stands : is_dropped new (length clauses) ≡ false = ap (λ flags. get_or flags (length clauses) false) more.flags ∙ get_or_push old.flags.items false false (length clauses) numbered.all_flags in
+    let before : live_of number (is_dropped new) clauses ≡ live_of (number_at old.own numbers) (is_dropped old) clauses = live_of-same (number_at old.own numbers) number (is_dropped old) (is_dropped new) clauses
+    (λ k under. number_at-push new.own numbers id k (omega (arith, numbered.all_clauses, more.same_own)) ∙ ap (λ own. number_at own numbers k) more.same_own)
+    (λ k under. ap (λ flags. get_or flags k false) more.flags ∙ get_or_append_left old.flags.items (false ∷ []) false k (omega (arith, numbered.all_flags))) in
+    live_of-push number (is_dropped new) clauses lits stands ∙ rw (added, before) refl
 
 -- how many clauses there are
 pub clauses_within : (numbers : List ClauseId) (last : ℕ) (dropped : Dropped) (clauses : List (List Lit)) → AreNumbered dropped numbers last clauses → length clauses ≤ last

@@ -21,16 +21,19 @@ pub record CanDrop (numbers : List ClauseId) (dropped : Dropped) (ids : List Cla
 -- the clauses with these numbers are dropped as well, and nothing else changes
 pub record DropsAlso (numbers : List ClauseId) (old new : Dropped) (ids : List ClauseId) : Type 0 where
   pub same_own : new.own ≡ old.own
+  pub same_size : length new.flags.items ≡ length old.flags.items
   pub here : (place : ℕ) → place < old.own + length numbers → is_dropped new place ≡ (is_dropped old place || is_named ids (number_at old.own numbers place))
   pub behind : (place : ℕ) → old.own + length numbers ≤ place → is_dropped new place ≡ is_dropped old place
 
 -- the clauses with these numbers are no longer dropped, and nothing else changes
 pub record Revives (numbers : List ClauseId) (old new : Dropped) (ids : List ClauseId) : Type 0 where
   pub same_own : new.own ≡ old.own
+  pub same_size : length new.flags.items ≡ length old.flags.items
   pub here : (place : ℕ) → place < old.own + length numbers → is_dropped new place ≡ (is_dropped old place && not (is_named ids (number_at old.own numbers place)))
   pub behind : (place : ℕ) → old.own + length numbers ≤ place → is_dropped new place ≡ is_dropped old place
 
 -- the same clauses are dropped
 pub record SameDrops (old new : Dropped) : Type 0 where
   pub same_own : new.own ≡ old.own
+  pub same_size : length new.flags.items ≡ length old.flags.items
   pub same : (place : ℕ) → is_dropped new place ≡ is_dropped old place

@@ -1,6 +1,6 @@
 -- How the clauses of the formula and those of the log are stored: in the order of their numbers, with a place each,
 -- from 0 on. The formula's own clauses come first.
-use Rattle.std.specs.Prelude.{◌≡◌, ℕ, suc, ◌+◌, ◌-◌, ◌^◌, ◌<◌, ◌≤◌, Bool, false, cond, nat_lt, List, [], ◌∷◌, length, slice_index_or}
+use Rattle.std.specs.Prelude.{◌≡◌, ℕ, suc, ◌+◌, ◌-◌, ◌^◌, ◌<◌, Bool, false, cond, nat_lt, List, [], ◌∷◌, length, slice_index_or}
 use Rattle.sat_core.specs.declared.literal.Lit.{Lit}
 use Rattle.sat_core.specs.declared.literal.ClauseId.{ClauseId}
 use Rattle.sat_core.specs.Hints.{NumberedClause}
@@ -12,7 +12,7 @@ number_at own numbers place = cond (nat_lt place own) (place + 1) (slice_index_o
 
 -- whether the clause at a place was dropped
 abbrev pub is_dropped : Dropped → ℕ → Bool
-is_dropped dropped place = cond (nat_lt place dropped.own) (slice_index_or dropped.of_formula.items place false) (slice_index_or dropped.of_log.items (place - dropped.own) false)
+is_dropped dropped place = slice_index_or dropped.flags.items place false
 
 -- the live clauses among those from place 0 on, by the number at each place and what was dropped
 abbrev pub live_of : (ℕ → ℕ) → (ℕ → Bool) → List (List Lit) → List NumberedClause
@@ -26,10 +26,15 @@ abbrev pub AscendsTo : ℕ → List ClauseId → ℕ → Type 0
 AscendsTo from [] last = from ≡ last
 AscendsTo from (id ∷ numbers) last = (from < id.0) × AscendsTo id.0 numbers last
 
--- the formula's own clauses and those of the log, with these numbers, are all clauses; `last` is the greatest number, and
--- nothing behind the clauses is dropped
+-- the formula's own clauses and those of the log, with these numbers, are all clauses, each with a flag; `last` is the
+-- greatest number
 pub record AreNumbered (dropped : Dropped) (numbers : List ClauseId) (last : ℕ) (clauses : List (List Lit)) : Type 0 where
   pub all_clauses : dropped.own + length numbers ≡ length clauses
   pub ascending : AscendsTo dropped.own numbers last
-  pub none_behind : (place : ℕ) → length clauses ≤ place → is_dropped dropped place ≡ false
+  pub all_flags : length dropped.flags.items ≡ length clauses
   pub fits : last < 2 ^ 32
+
+-- the same, where the clauses of the log stand in a formula of their own, over the same variables
+pub record AreStored (vars log_vars : ℕ) (dropped : Dropped) (numbers : List ClauseId) (last : ℕ) (clauses : List (List Lit)) : Type 0 where
+  pub same_variables : log_vars ≡ vars
+  pub numbered : AreNumbered dropped numbers last clauses

@@ -1,15 +1,18 @@
+//! The literals that are known while a step is read.
+
 ghost use Rattle.std.specs.Prelude.{◌≡◌, ◌+◌, ◌-◌, ◌*◌, ◌<◌, ◌≤◌, Bool, false, IfOk, OnOk, OnErr, [], ◌∷◌, ◌++◌, ◌||◌, cond, length, All, slice_index_or};
 ghost use Rattle.sat_core.specs.declared.literal.Lit.{Lit};
 ghost use Rattle.sat_core.specs.Clauses.{negated, IsOver};
 ghost use Rattle.sat_core.specs.Hints.{is_known as is_known_of};
+ghost use Rattle.sat_core.specs.Fresh.{IsOpen};
 ghost use Rattle.log_checker.specs.Assigned.{mark_place, AreMarked};
 
 use sat_core::Lit;
 use std::alloc::{AllocError, Global};
 use std::marker::Model;
 
-/// The literals that are known to be true while a step is read. Marks tell a known literal in constant time; the
-/// trail undoes them.
+/// The literals that are known to be true while a step is read, of each variable one at most. Marks tell a known
+/// literal in constant time; the trail, which has room for a literal of each variable, undoes them.
 #[derive(Debug, Drop)]
 pub(crate) struct Assignment {
     vars: u32,
@@ -18,24 +21,25 @@ pub(crate) struct Assignment {
 }
 
 impl Model for Assignment {
-    ghost use Rattle.log_checker.specs.Assigned.{Known, AreMarked};
+    ghost use Rattle.std.specs.Prelude.{vec_capacity};
+    ghost use Rattle.log_checker.specs.Assigned.{Known, IsAssigned};
 
     ghost Value = { Known };
 
     ghost view = { λ a. record { vars = a.vars; lits = a.trail.items } };
 
-    ghost invariant = { λ a. AreMarked a.vars a.marks.items a.trail.items };
+    ghost invariant = { λ a. IsAssigned a.vars a.marks.items a.trail.items (vec_capacity a.trail) };
 }
 
 impl Assignment {
-    /// Nothing is known. Takes two bytes a variable.
+    /// Nothing is known. Takes ten bytes a variable.
     pub(crate) fn new(alloc: Global, vars: u32) -> Result<Assignment, AllocError>
         ensures { IfOk result (λ fresh. (fresh.vars ≡ vars) × (fresh.lits ≡ [])) }
     {
         Ok(Assignment {
             vars,
             marks: vec![in alloc; false; 2 * vars as usize]?,
-            trail: Vec::new(alloc),
+            trail: Vec::with_capacity(alloc, vars as usize)?,
         })
     }
 
@@ -54,16 +58,15 @@ impl Assignment {
         self.is_known(lit) || self.is_known(lit.negated())
     }
 
-    /// Takes memory only where the trail has no room at hand.
-    pub(crate) fn assume(&mut self, lit: Lit) -> Result<(), AllocError>
-        requires { IsOver self.old.vars lit }
+    /// Makes the literal known. Takes no memory: the variable has no value yet, so the trail has room for it.
+    pub(crate) fn assume(&mut self, lit: Lit)
+        requires over { IsOver self.old.vars lit }
+        requires is_open { IsOpen self.old.lits lit }
         ensures vars { self.new.vars ≡ self.old.vars }
-        ensures ok { OnOk result (self.new.lits ≡ self.old.lits ++ lit ∷ []) }
-        ensures err { OnErr result (self.new.lits ≡ self.old.lits) }
+        ensures known { self.new.lits ≡ self.old.lits ++ lit ∷ [] }
     {
-        self.trail.push(lit)?;
+        self.trail.push_reserved(lit);
         self.marks[mark_of(lit)] = true;
-        Ok(())
     }
 
     /// Forgets all literals, in time linear in them.
@@ -76,6 +79,7 @@ impl Assignment {
     }
 }
 
+/// The place of the literal's mark.
 fn mark_of(lit: Lit) -> usize
     requires { 1 ≤ lit.var.0 }
     ensures { result ≡ mark_place lit }
@@ -83,7 +87,7 @@ fn mark_of(lit: Lit) -> usize
     2 * (lit.var.0 as usize - 1) + usize::from(lit.positive)
 }
 
-// `vars` stands in the contract alone.
+/// Clears the marks of these literals. `vars` stands in the contract alone.
 fn unmark(vars: u32, marks: &mut [bool], trail: &[Lit])
     requires { AreMarked vars marks.old trail.now }
     ensures { (lit : Lit) → IsOver vars lit → slice_index_or marks.new (mark_place lit) false ≡ false }

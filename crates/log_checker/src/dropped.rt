@@ -1,83 +1,54 @@
-ghost use Rattle.std.specs.Prelude.{◌≡◌, ◌&&◌, ◌||◌, ℕ, not, nat_eq, OnOk, OnErr, false, slice_index_or};
+//! Which clauses were dropped.
+
+ghost use Rattle.std.specs.Prelude.{◌≡◌, ◌<◌, ◌&&◌, ◌||◌, ℕ, not, nat_eq, IfOk, false, length, slice_index_or};
 
 use std::alloc::{AllocError, Global};
 
-/// Which clauses were dropped, by their places. Each vector is only as long as the highest place dropped in it wants,
-/// so a log that drops none of the formula's clauses takes no memory for these.
+/// Which clauses were dropped: a flag for each, by its place. The first `own` places are those of the formula's clauses.
 #[derive(Debug, Drop)]
 pub(crate) struct Dropped {
     pub(crate) own: usize,
-    pub(crate) of_formula: Vec<bool>,
-    pub(crate) of_log: Vec<bool>,
+    pub(crate) flags: Vec<bool>,
 }
 
 #[tactic(auto, using(crate::proofs::DroppedLemmas::dropped_laws))]
 impl Dropped {
     ghost use Rattle.log_checker.specs.Stored.{is_dropped};
 
-    /// Nothing was dropped. The first `own` places are those of the formula's clauses.
-    pub(crate) fn new(alloc: Global, own: usize) -> Dropped
-        ensures own { result.own ≡ own }
-        ensures none { (place : ℕ) → is_dropped result place ≡ false }
+    /// Of the formula's `own` clauses none was dropped. Takes a byte for each.
+    pub(crate) fn new(alloc: Global, own: usize) -> Result<Dropped, AllocError>
+        ensures own { IfOk result (λ dropped. dropped.own ≡ own) }
+        ensures size { IfOk result (λ dropped. length dropped.flags.items ≡ own) }
+        ensures none { IfOk result (λ dropped. (place : ℕ) → is_dropped dropped place ≡ false) }
     {
-        Dropped {
+        Ok(Dropped {
             own,
-            of_formula: Vec::new(alloc),
-            of_log: Vec::new(alloc),
-        }
+            flags: vec![in alloc; false; own]?,
+        })
     }
 
     pub(crate) fn contains(&self, place: usize) -> bool
+        requires { place < length self.now.flags.items }
         ensures { result ≡ is_dropped self.now place }
     {
-        if place < self.own {
-            self.of_formula.get(place).copied().unwrap_or(false)
-        } else {
-            self.of_log.get(place - self.own).copied().unwrap_or(false)
-        }
+        self.flags[place]
     }
 
-    pub(crate) fn insert(&mut self, place: usize) -> Result<(), AllocError>
+    pub(crate) fn insert(&mut self, place: usize)
+        requires { place < length self.old.flags.items }
         ensures own { self.new.own ≡ self.old.own }
-        ensures ok { OnOk result ((other : ℕ) → is_dropped self.new other ≡ (is_dropped self.old other || nat_eq other place)) }
-        ensures err { OnErr result ((other : ℕ) → is_dropped self.new other ≡ is_dropped self.old other) }
+        ensures size { length self.new.flags.items ≡ length self.old.flags.items }
+        ensures inserted { (other : ℕ) → is_dropped self.new other ≡ (is_dropped self.old other || nat_eq other place) }
     {
-        if place < self.own {
-            set(&mut self.of_formula, place)
-        } else {
-            set(&mut self.of_log, place - self.own)
-        }
+        self.flags[place] = true;
     }
 
     pub(crate) fn remove(&mut self, place: usize)
+        requires { place < length self.old.flags.items }
         ensures own { self.new.own ≡ self.old.own }
+        ensures size { length self.new.flags.items ≡ length self.old.flags.items }
         ensures removed { (other : ℕ) → is_dropped self.new other ≡ (is_dropped self.old other && not (nat_eq other place)) }
     {
-        if place < self.own {
-            unset(&mut self.of_formula, place);
-        } else {
-            unset(&mut self.of_log, place - self.own);
-        }
-    }
-}
-
-// Sets the flag, where flags past the end count as not set.
-fn set(flags: &mut Vec<bool>, place: usize) -> Result<(), AllocError>
-    ensures ok { OnOk result ((other : ℕ) → slice_index_or flags.new.items other false ≡ (slice_index_or flags.old.items other false || nat_eq other place)) }
-    ensures err { OnErr result ((other : ℕ) → slice_index_or flags.new.items other false ≡ slice_index_or flags.old.items other false) }
-{
-    if flags.len() <= place {
-        let long_enough = place.checked_add(1).ok_or(AllocError)?;
-        flags.resize(long_enough, false)?;
-    }
-    flags[place] = true;
-    Ok(())
-}
-
-fn unset(flags: &mut Vec<bool>, place: usize)
-    ensures { (other : ℕ) → slice_index_or flags.new.items other false ≡ (slice_index_or flags.old.items other false && not (nat_eq other place)) }
-{
-    if place < flags.len() {
-        flags[place] = false;
+        self.flags[place] = false;
     }
 }

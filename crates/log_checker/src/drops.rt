@@ -1,5 +1,6 @@
-// Dropping all of several clauses, or none.
-ghost use Rattle.std.specs.Prelude.{◌≡◌, ◌⊎◌, [], ◌∷◌, OnOk, OnErr, IfErr};
+//! Dropping all of several clauses, or none.
+
+ghost use Rattle.std.specs.Prelude.{◌≡◌, ◌+◌, [], ◌∷◌, OnOk, OnErr, IfErr, length};
 ghost use Rattle.log_checker.specs.Stored.{AscendsTo};
 ghost use Rattle.log_checker.specs.Drops.{IsLiveNumber, CanDrop, DropsAlso, Revives, SameDrops};
 
@@ -7,19 +8,20 @@ use crate::dropped::Dropped;
 use crate::numbers::place_of;
 use sat_core::{ClauseId, StepFault};
 
-// Drops the clauses with these numbers, where the log's clauses have `numbers`, which end with `last`. After a fault
-// none of them is dropped.
+/// Drops the clauses with these numbers, where the log's clauses have `numbers`, which end with `last`. After a fault
+/// none of them is dropped.
 pub(crate) fn drop_all(
     numbers: &[ClauseId],
     last: u32,
     dropped: &mut Dropped,
     ids: &[ClauseId],
 ) -> Result<(), StepFault>
-    requires { AscendsTo dropped.old.own numbers.now last }
+    requires ascending { AscendsTo dropped.old.own numbers.now last }
+    requires all_flags { dropped.old.own + length numbers.now ≡ length dropped.old.flags.items }
     ensures can { OnOk result (CanDrop numbers.now dropped.old ids.now) }
     ensures drops { OnOk result (DropsAlso numbers.now dropped.old dropped.new ids.now) }
-    ensures cannot { result ≡ Err StepFault.UnknownClause → ¬ CanDrop numbers.now dropped.old ids.now }
-    ensures faults { IfErr result (λ fault. (fault ≡ StepFault.UnknownClause) ⊎ (fault ≡ StepFault.Memory)) }
+    ensures cannot { OnErr result (¬ CanDrop numbers.now dropped.old ids.now) }
+    ensures fault { IfErr result (λ fault. fault ≡ StepFault.UnknownClause) }
     ensures same { OnErr result (SameDrops dropped.old dropped.new) }
 {
     for (count, id) in ids.iter().enumerate() {
@@ -34,17 +36,19 @@ pub(crate) fn drop_all(
     Ok(())
 }
 
+/// Drops the clause with that number, if it is live.
 fn drop_one(
     numbers: &[ClauseId],
     last: u32,
     dropped: &mut Dropped,
     id: ClauseId,
 ) -> Result<(), StepFault>
-    requires { AscendsTo dropped.old.own numbers.now last }
+    requires ascending { AscendsTo dropped.old.own numbers.now last }
+    requires all_flags { dropped.old.own + length numbers.now ≡ length dropped.old.flags.items }
     ensures was_live { OnOk result (IsLiveNumber numbers.now dropped.old id) }
     ensures drops { OnOk result (DropsAlso numbers.now dropped.old dropped.new (id ∷ [])) }
-    ensures not_live { result ≡ Err StepFault.UnknownClause → ¬ IsLiveNumber numbers.now dropped.old id }
-    ensures faults { IfErr result (λ fault. (fault ≡ StepFault.UnknownClause) ⊎ (fault ≡ StepFault.Memory)) }
+    ensures not_live { OnErr result (¬ IsLiveNumber numbers.now dropped.old id) }
+    ensures fault { IfErr result (λ fault. fault ≡ StepFault.UnknownClause) }
     ensures same { OnErr result (SameDrops dropped.old dropped.new) }
 {
     match place_of(dropped.own, numbers, last, id) {
@@ -53,16 +57,16 @@ fn drop_one(
             if dropped.contains(place) {
                 return Err(StepFault::UnknownClause);
             }
-            match dropped.insert(place) {
-                Ok(()) => Ok(()),
-                Err(_) => Err(StepFault::Memory),
-            }
+            dropped.insert(place);
+            Ok(())
         }
     }
 }
 
+/// Makes the clauses with these numbers live again.
 fn revive_all(numbers: &[ClauseId], last: u32, dropped: &mut Dropped, ids: &[ClauseId])
-    requires { AscendsTo dropped.old.own numbers.now last }
+    requires ascending { AscendsTo dropped.old.own numbers.now last }
+    requires all_flags { dropped.old.own + length numbers.now ≡ length dropped.old.flags.items }
     ensures { Revives numbers.now dropped.old dropped.new ids.now }
 {
     for id in ids {
@@ -70,8 +74,10 @@ fn revive_all(numbers: &[ClauseId], last: u32, dropped: &mut Dropped, ids: &[Cla
     }
 }
 
+/// Makes the clause with that number live again, if there is one.
 fn revive_one(numbers: &[ClauseId], last: u32, dropped: &mut Dropped, id: ClauseId)
-    requires { AscendsTo dropped.old.own numbers.now last }
+    requires ascending { AscendsTo dropped.old.own numbers.now last }
+    requires all_flags { dropped.old.own + length numbers.now ≡ length dropped.old.flags.items }
     ensures { Revives numbers.now dropped.old dropped.new (id ∷ []) }
 {
     match place_of(dropped.own, numbers, last, id) {

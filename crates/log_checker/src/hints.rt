@@ -1,7 +1,9 @@
-// The test of a step's hints.
-ghost use Rattle.std.specs.Prelude.{◌≡◌, ◌≢◌, All, Some};
+//! The test of a step's hints.
+
+ghost use Rattle.std.specs.Prelude.{◌≡◌, All};
 ghost use Rattle.sat_core.specs.declared.literal.Lit.{Lit};
 ghost use Rattle.sat_core.specs.Clauses.{IsOver};
+ghost use Rattle.sat_core.specs.Fresh.{IsOpen};
 ghost use Rattle.sat_core.specs.Hints.{not_false, outcome_by, hints_fault};
 ghost use Rattle.log_checker.specs.Readings.{outcome_told};
 
@@ -20,7 +22,7 @@ pub(crate) enum Reading {
 }
 
 /// The first fault of the hints, where each forced literal is known from its hint on. One pass over the hints and
-/// their literals. `Memory` is answered where the trail finds none.
+/// their literals.
 pub(crate) fn first_fault(
     store: &ClauseStore,
     assignment: &mut Assignment,
@@ -28,7 +30,7 @@ pub(crate) fn first_fault(
 ) -> Option<StepFault>
     requires { store.now.vars ≡ assignment.old.vars }
     ensures vars { assignment.new.vars ≡ assignment.old.vars }
-    ensures fault { result ≢ Some StepFault.Memory → result ≡ hints_fault store.now.live assignment.old.lits hints.now }
+    ensures fault { result ≡ hints_fault store.now.live assignment.old.lits hints.now }
 {
     for (count, hint) in hints.iter().enumerate() {
         let lits = match store.lits(*hint) {
@@ -44,19 +46,18 @@ pub(crate) fn first_fault(
                 };
             }
             Reading::NotUnit => return Some(StepFault::HintNotUnit),
-            Reading::Forced(lit) => match assignment.assume(lit) {
-                Ok(()) => {}
-                Err(_) => return Some(StepFault::Memory),
-            },
+            Reading::Forced(lit) => assignment.assume(lit),
         }
     }
     Some(StepFault::NoConflict)
 }
 
+/// What the clause tells while the literals of the assignment are known.
 fn read_clause(assignment: &Assignment, lits: &[Lit]) -> Reading
     requires { All (IsOver assignment.now.vars) lits.now }
     ensures outcome { outcome_told result ≡ outcome_by assignment.now.lits (not_false assignment.now.lits lits.now) }
     ensures in_range { (lit : Lit) → result ≡ Reading.Forced lit → IsOver assignment.now.vars lit }
+    ensures is_open { (lit : Lit) → result ≡ Reading.Forced lit → IsOpen assignment.now.lits lit }
 {
     let mut remaining = None;
     for lit in lits {

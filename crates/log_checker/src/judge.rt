@@ -1,5 +1,6 @@
-// The tests of an added clause, in their order.
-ghost use Rattle.std.specs.Prelude.{◌≡◌, ◌≢◌, ◌⊎◌, ◌↔◌, [], map, All, OnOk, IfErr, IsTrue};
+//! The tests of an added clause, in their order.
+
+ghost use Rattle.std.specs.Prelude.{◌≡◌, ◌↔◌, [], map, All, OnOk, IfErr, IsTrue};
 ghost use Rattle.sat_core.specs.Clauses.{negated, IsOver, HasNoVariableTwice};
 ghost use Rattle.sat_core.specs.Derivation.{IsAcceptedAdd, IsFaultOfAdd};
 
@@ -20,7 +21,7 @@ pub(crate) fn judge(
     requires nothing_known { assignment.old.lits ≡ [] }
     ensures vars { assignment.new.vars ≡ assignment.old.vars }
     ensures accepted { OnOk result (IsAcceptedAdd store.now id lits.now hints.now) }
-    ensures fault { IfErr result (λ fault. fault ≢ StepFault.Memory → IsFaultOfAdd store.now id lits.now hints.now fault) }
+    ensures fault { IfErr result (IsFaultOfAdd store.now id lits.now hints.now) }
 {
     if id.0 <= store.last() {
         return Err(StepFault::IdOrder);
@@ -28,39 +29,35 @@ pub(crate) fn judge(
     if !are_over(store.vars(), lits) {
         return Err(StepFault::UnknownVariable);
     }
-    match assume_negations(assignment, lits) {
-        Ok(()) => match first_fault(store, assignment, hints) {
-            None => Ok(()),
-            Some(fault) => Err(fault),
-        },
-        Err(fault) => Err(fault),
+    if !assume_negations(assignment, lits) {
+        return Err(StepFault::Twofold);
+    }
+    match first_fault(store, assignment, hints) {
+        None => Ok(()),
+        Some(fault) => Err(fault),
     }
 }
 
+/// Whether the variables of the literals are all from 1 to `vars`.
 fn are_over(vars: u32, lits: &[Lit]) -> bool
     ensures { IsTrue result ↔ All (IsOver vars) lits.now }
 {
     lits.iter().all(|lit| 1 <= lit.var.0 && lit.var.0 <= vars)
 }
 
-// Makes the negation of each literal known.
-fn assume_negations(assignment: &mut Assignment, lits: &[Lit]) -> Result<(), StepFault>
+/// Makes the negation of each literal known, unless a variable stands twice. Answers whether none does.
+fn assume_negations(assignment: &mut Assignment, lits: &[Lit]) -> bool
     requires in_range { All (IsOver assignment.old.vars) lits.now }
     requires nothing_known { assignment.old.lits ≡ [] }
     ensures vars { assignment.new.vars ≡ assignment.old.vars }
-    ensures no_variable_twice { OnOk result (HasNoVariableTwice lits.now) }
-    ensures known { OnOk result (assignment.new.lits ≡ map negated lits.now) }
-    ensures twofold { result ≡ Err StepFault.Twofold → ¬ HasNoVariableTwice lits.now }
-    ensures faults { IfErr result (λ fault. (fault ≡ StepFault.Twofold) ⊎ (fault ≡ StepFault.Memory)) }
+    ensures exact { IsTrue result ↔ HasNoVariableTwice lits.now }
+    ensures known { IsTrue result → assignment.new.lits ≡ map negated lits.now }
 {
     for lit in lits {
         if assignment.has_value(*lit) {
-            return Err(StepFault::Twofold);
+            return false;
         }
-        match assignment.assume(lit.negated()) {
-            Ok(()) => {}
-            Err(_) => return Err(StepFault::Memory),
-        }
+        assignment.assume(lit.negated());
     }
-    Ok(())
+    true
 }

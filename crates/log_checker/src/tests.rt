@@ -1,3 +1,5 @@
+//! What no clause says of the checker: that memory suffices, with verdicts compared.
+
 use crate::{Checker, LogVerdict, StepFault, check_log};
 use derivation_log::{Log, Step};
 use sat_core::{ClauseId, Formula, Lit, Var, is_clause};
@@ -8,7 +10,7 @@ use vss_lists::Items;
 
 // A section of four cells with three candidates for borders: separation of cells, an entry that can't be met (clause
 // 7), and a counter of borders.
-const EXAMPLE: [&[i32]; 27] = [
+static EXAMPLE: [&[i32]; 27] = [
     &[-4, 1],
     &[-5, 1, 2],
     &[-6, 1, 2, 3],
@@ -38,11 +40,13 @@ const EXAMPLE: [&[i32]; 27] = [
     &[-24, 23],
 ];
 
-enum Line {
+/// A step of a log, in a table.
+pub(crate) enum Line {
     Add(u32, &'static [i32], &'static [u32]),
     Drop(&'static [u32]),
 }
 
+/// The literals of these numbers, negative where the literal is.
 fn lits_of(alloc: Global, numbers: &[i32]) -> Result<Vec<Lit>, AllocError> {
     numbers
         .iter()
@@ -61,37 +65,71 @@ fn ids_of(alloc: Global, numbers: &[u32]) -> Result<Items<ClauseId>, AllocError>
     Ok(Items::from_vec(ids))
 }
 
+/// The step that adds a clause.
+pub(crate) fn add(alloc: Global, id: u32, lits: &[i32], hints: &[u32]) -> Result<Step, AllocError> {
+    Ok(Step::Add {
+        id: ClauseId(id),
+        lits: Items::from_vec(lits_of(alloc, lits)?),
+        hints: ids_of(alloc, hints)?,
+    })
+}
+
+/// The step that drops clauses.
+pub(crate) fn drop_step(alloc: Global, ids: &[u32]) -> Result<Step, AllocError> {
+    Ok(Step::Drop {
+        ids: ids_of(alloc, ids)?,
+    })
+}
+
 fn step_of(alloc: Global, line: &Line) -> Result<Step, AllocError> {
     match line {
-        Line::Add(id, lits, hints) => Ok(Step::Add {
-            id: ClauseId(*id),
-            lits: Items::from_vec(lits_of(alloc, lits)?),
-            hints: ids_of(alloc, hints)?,
-        }),
-        Line::Drop(ids) => Ok(Step::Drop {
-            ids: ids_of(alloc, ids)?,
-        }),
+        Line::Add(id, lits, hints) => add(alloc, *id, lits, hints),
+        Line::Drop(ids) => drop_step(alloc, ids),
     }
 }
 
-fn example(rt: &impl Abort, alloc: Global) -> Result<Formula, Fail> {
-    let mut formula = Formula::new(alloc, 24);
-    for numbers in EXAMPLE {
+/// The formula of these clauses.
+pub(crate) fn formula_of(
+    rt: &impl Abort,
+    alloc: Global,
+    vars: u32,
+    clauses: &[&[i32]],
+) -> Result<Formula, Fail> {
+    let mut formula = Formula::new(alloc, vars);
+    for numbers in clauses {
         let lits = lits_of(alloc, numbers)?;
         assert!(rt; is_clause(formula.vars(), lits.as_slice()));
-        assert!(rt; formula.len() < 100);
+        assert!(rt; formula.len() < 1_000_000);
         formula.push(lits.as_slice())?;
     }
     Ok(formula)
 }
 
-fn verdict_on(rt: &impl Abort, alloc: Global, lines: &[Line]) -> Result<LogVerdict, Fail> {
+/// What `check_log` answers on the log of these steps.
+pub(crate) fn verdict_on(
+    rt: &impl Abort,
+    formula: Formula,
+    steps: Items<Step>,
+) -> Result<LogVerdict, Fail> {
+    assert!(rt; steps.len() < 1_000_000);
+    Ok(check_log(formula, &Log { steps })?)
+}
+
+/// The steps of these lines.
+pub(crate) fn steps_of(alloc: Global, lines: &[Line]) -> Result<Items<Step>, Fail> {
     let mut steps = Items::new(alloc);
     for line in lines {
         steps.push(step_of(alloc, line)?)?;
     }
-    assert!(rt; steps.len() < 1_000_000);
-    Ok(check_log(example(rt, alloc)?, &Log { steps })?)
+    Ok(steps)
+}
+
+fn example(rt: &impl Abort, alloc: Global) -> Result<Formula, Fail> {
+    formula_of(rt, alloc, 24, &EXAMPLE)
+}
+
+fn verdict_on_example(rt: &impl Abort, alloc: Global, lines: &[Line]) -> Result<LogVerdict, Fail> {
+    verdict_on(rt, example(rt, alloc)?, steps_of(alloc, lines)?)
 }
 
 // Logs, and the first step that isn't accepted with its fault.
@@ -135,7 +173,7 @@ static FAULTS: [(&[Line], u32, StepFault); 12] = [
 fn tells_the_first_fault_of_each_log(rt: HostRuntime) -> Result<(), Fail> {
     for (lines, index, fault) in FAULTS {
         assert_eq!(rt;
-            verdict_on(&rt, rt.alloc(), lines)?,
+            verdict_on_example(&rt, rt.alloc(), lines)?,
             LogVerdict::Bad { index, fault }
         );
     }
@@ -165,7 +203,7 @@ static VERDICTS: [(&[Line], LogVerdict); 5] = [
 #[test]
 fn refutes_by_the_empty_clause_at_the_end_alone(rt: HostRuntime) -> Result<(), Fail> {
     for (lines, verdict) in VERDICTS {
-        assert_eq!(rt; verdict_on(&rt, rt.alloc(), lines)?, verdict);
+        assert_eq!(rt; verdict_on_example(&rt, rt.alloc(), lines)?, verdict);
     }
     Ok(())
 }
@@ -184,16 +222,11 @@ fn a_drop_that_fails_at_its_end_drops_nothing(rt: HostRuntime) -> Result<(), Fai
 fn refutes_by_a_long_log(rt: HostRuntime) -> Result<(), Fail> {
     let mut steps = Items::new(rt.alloc());
     for id in 28..100_028 {
-        steps.push(Step::Add {
-            id: ClauseId(id),
-            lits: Items::from_vec(lits_of(rt.alloc(), &[1])?),
-            hints: ids_of(rt.alloc(), &[7])?,
-        })?;
+        steps.push(add(rt.alloc(), id, &[1], &[7])?)?;
     }
-    steps.push(step_of(rt.alloc(), &Line::Add(100_028, &[], &[7]))?)?;
-    assert!(rt; steps.len() < 1_000_000);
+    steps.push(add(rt.alloc(), 100_028, &[], &[7])?)?;
     assert_eq!(rt;
-        check_log(example(&rt, rt.alloc())?, &Log { steps })?,
+        verdict_on(&rt, example(&rt, rt.alloc())?, steps)?,
         LogVerdict::Refutes
     );
     Ok(())

@@ -1,3 +1,5 @@
+//! The verdict on a whole log.
+
 ghost use Rattle.std.specs.Prelude.{◌≡◌, ◌≢◌, ◌^◌, ◌<◌, ◌↔◌, length, slice_get, Option, IfOk, IsTrue};
 ghost use Rattle.sat_core.specs.Clauses.{IsUnsatisfiable};
 ghost use Rattle.sat_core.specs.Derivation.{EndsInEmptyClause, Refutes};
@@ -42,7 +44,7 @@ pub fn check_log(formula: Formula, log: &Log) -> Result<LogVerdict, AllocError>
     }
 }
 
-// The verdict on a log whose step at that place isn't taken.
+/// The verdict on a log whose step at that place isn't taken.
 fn bad(index: u32, fault: StepFault) -> Result<LogVerdict, AllocError>
     ensures { IfOk result (λ verdict. (verdict ≡ LogVerdict.Bad index fault) × (fault ≢ StepFault.Memory)) }
 {
@@ -52,6 +54,7 @@ fn bad(index: u32, fault: StepFault) -> Result<LogVerdict, AllocError>
     }
 }
 
+/// Whether the last step adds the empty clause.
 fn ends_in_empty_clause(steps: &[Step]) -> bool
     ensures { IsTrue result ↔ EndsInEmptyClause (derived_steps steps.now) }
 {

@@ -2,44 +2,44 @@
 use Rattle.std.proofs.Common.{◌≡◌, ◌≢◌, ℕ, ◌+◌, ◌<◌, ◌⊎◌, List, length, get_or, set, refl, sym, ap, ◌∙◌, inl, inr, arith, length-set, get_or-set_same, get_or-set_other}
 use Rattle.std.proofs.lemmas.Bool.{cases_eq}
 use Rattle.node_groups.specs.Reach.{Reaches}
-use Rattle.node_groups.specs.Forest.{IsForest, HasParent, IsRoot, Linked, Joined, JoinsAlike, KeepsRoots, WithPair, AddsPair}
+use Rattle.node_groups.specs.Forest.{IsForest, HasParent, IsRoot, IsParentOrChild, Joined, JoinsAlike, KeepsRoots, WithPair, AddsPair}
 use Rattle.node_groups.proofs.ReachLaws.{Reaches-refl, Reaches-step, Reaches-trans, Reaches-sym, Reaches-within}
 
 pub Joined-refl : (p : List ℕ) (i : ℕ) → Joined p i i
 unfolding Joined
-Joined-refl p i = Reaches-refl (Linked p) i
+Joined-refl p i = Reaches-refl (IsParentOrChild p) i
 
 pub Joined-trans : (p : List ℕ) (i j k : ℕ) → Joined p i j → Joined p j k → Joined p i k
 unfolding Joined
-Joined-trans p i j k = Reaches-trans (Linked p) i j k
+Joined-trans p i j k = Reaches-trans (IsParentOrChild p) i j k
 
-linked_back : (p : List ℕ) (i j : ℕ) → Linked p i j → Linked p j i
-unfolding Linked
+linked_back : (p : List ℕ) (i j : ℕ) → IsParentOrChild p i j → IsParentOrChild p j i
+unfolding IsParentOrChild
 linked_back p i j (inl h) = inr h
 linked_back p i j (inr h) = inl h
 
 pub Joined-sym : (p : List ℕ) (i j : ℕ) → Joined p i j → Joined p j i
 unfolding Joined
-Joined-sym p i j = Reaches-sym (Linked p) (linked_back p) i j
+Joined-sym p i j = Reaches-sym (IsParentOrChild p) (linked_back p) i j
 
 -- an item is joined with its parent
 pub Joined-parent : (p : List ℕ) (i j : ℕ) → HasParent p i j → Joined p i j
-unfolding Joined Linked
-Joined-parent p i j h = Reaches-step (Linked p) i j (inl h)
+unfolding Joined IsParentOrChild
+Joined-parent p i j h = Reaches-step (IsParentOrChild p) i j (inl h)
 
 -- all that is joined in p stands in a relation of paths, if each item and its parent do
 pub Joined-within : (p : List ℕ) (S : ℕ → ℕ → Type 0) → ((x y : ℕ) → S x y → S y x) → ((x y : ℕ) → HasParent p x y → Reaches S x y) → (i j : ℕ) → Joined p i j → Reaches S i j
-unfolding Joined Linked
-Joined-within p S back along i j h = Reaches-within (Linked p) S each i j h
+unfolding Joined IsParentOrChild
+Joined-within p S back along i j h = Reaches-within (IsParentOrChild p) S each i j h
   where
-    each : (x y : ℕ) → Linked p x y → Reaches S x y
+    each : (x y : ℕ) → IsParentOrChild p x y → Reaches S x y
     each x y (inl h) = along x y h
     each x y (inr h) = Reaches-sym S back y x (along y x h)
 
 -- all that is joined in p is joined in q, if each item and its parent are
 pub Joined-along : (p q : List ℕ) → ((x y : ℕ) → HasParent p x y → Joined q x y) → (i j : ℕ) → Joined p i j → Joined q i j
 unfolding Joined
-Joined-along p q along i j h = Joined-within p (Linked q) (linked_back q) along i j h
+Joined-along p q along i j h = Joined-within p (IsParentOrChild q) (linked_back q) along i j h
 
 pub JoinsAlike-refl : (p : List ℕ) → JoinsAlike p p
 unfolding JoinsAlike
@@ -172,7 +172,7 @@ module _ (p : List ℕ) (a b low high : ℕ) (root : IsRoot p high) (first : Joi
   unfolding AddsPair Joined
   AddsPair_linked i j = (
     Joined-within (set p high low) (WithPair (Joined p) a b) (with_pair_back p a b) new_step i j,
-    Reaches-within (WithPair (Joined p) a b) (Linked (set p high low)) pair_is_new i j,
+    Reaches-within (WithPair (Joined p) a b) (IsParentOrChild (set p high low)) pair_is_new i j,
   )
 
 -- a pair has no order

@@ -7,7 +7,7 @@ use Rattle.std.proofs.lemmas.List.Sorted.{all_adjacent_more}
 use Rattle.std.proofs.lemmas.Bool.{cases_lt}
 use Rattle.node_groups.specs.declared.ends.End.{End}
 use Rattle.node_groups.specs.Reach.{Reaches}
-use Rattle.node_groups.specs.Forest.{IsForest, HasParent, AreRoots, AreAllRoots, Joined, JoinsAlike, AddsPair, WithPair, JoinsBy, Linked}
+use Rattle.node_groups.specs.Forest.{IsForest, HasParent, AreRoots, AreAllRoots, Joined, JoinsAlike, AddsPair, WithPair, JoinsBy, IsParentOrChild}
 use Rattle.node_groups.specs.Ends.{IsInOrder, MeetAt, Shares}
 use Rattle.node_groups.specs.Groups.{GroupsByReach, NamedByLowest}
 use Rattle.node_groups.proofs.ReachLaws.{Reaches-refl, Reaches-step, Reaches-keeps, Reaches-within}
@@ -105,7 +105,7 @@ module _ (ends : List End) (barriers : List ℕ) where
   unfolding JoinsBy Joined
   so_far_last p n before all order i j = (
     before.sound i j,
-    Reaches-within (Shares ends barriers) (Linked p) (joined_where_met p order (λ k d below. before.near k d (omega arith))) i j,
+    Reaches-within (Shares ends barriers) (IsParentOrChild p) (joined_where_met p order (λ k d below. before.near k d (omega arith))) i j,
   )
 
 -- trees that hold the same items are joined by the same relation
@@ -121,10 +121,10 @@ module _ (p : List ℕ) (R : ℕ → ℕ → Type 0) (forest : IsForest p) (root
       sym (roots x h.within).is ∙ sym at_parent
 
   joined_same : (i j : ℕ) → Joined p i j → get_or p i 0 ≡ get_or p j 0
-  unfolding Joined Linked
-  joined_same i j h = Reaches-keeps (Linked p) (λ x. get_or p i 0 ≡ get_or p x 0) each i j h refl
+  unfolding Joined IsParentOrChild
+  joined_same i j h = Reaches-keeps (IsParentOrChild p) (λ x. get_or p i 0 ≡ get_or p x 0) each i j h refl
     where
-      each : (x y : ℕ) → Linked p x y → get_or p i 0 ≡ get_or p x 0 → get_or p i 0 ≡ get_or p y 0
+      each : (x y : ℕ) → IsParentOrChild p x y → get_or p i 0 ≡ get_or p x 0 → get_or p i 0 ≡ get_or p y 0
       each x y (inl up) so_far = so_far ∙ linked_same x y up
       each x y (inr down) so_far = so_far ∙ sym (linked_same y x down)
 

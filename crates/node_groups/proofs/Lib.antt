@@ -1,11 +1,9 @@
 pub mod ReachLaws
-pub mod ForestLaws
-pub mod EndLemmas
-pub mod GroupLemmas
-pub mod TouchLemmas
 pub mod TouchLaws
-pub mod RunLemmas
-pub mod SparseLemmas
-pub mod SplitLemmas
-pub mod PartLemmas
-pub mod PartLaws
+mod ForestLaws
+mod EndLemmas
+mod StretchLemmas
+mod GroupLemmas
+mod TouchLemmas
+mod SplitLemmas
+mod PartLemmas

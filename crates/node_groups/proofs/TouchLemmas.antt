@@ -1,24 +1,16 @@
 -- Ends of a list of segments meet where the segments touch
-use Rattle.std.proofs.Common.{◌≡◌, ℕ, ◌<◌, List, Some, Contains, All, IsPermutation, length, refl, sym, ◌∙◌, zero-add}
+use Rattle.std.proofs.Common.{◌≡◌, ℕ, ◌<◌, List, Some, Contains, All, IsPermutation, length, refl, sym, ◌∙◌, get_or}
 use Rattle.std.specs.List.{slice_get}
 use Rattle.std.proofs.lemmas.Option.{slice_get_within}
-use Rattle.std.proofs.lemmas.List.Elements.{All-from_recursion, All-contains}
-use Rattle.std.proofs.lemmas.List.Sorted.{All-permutation, Contains-permutation, IsPermutation-sym}
+use Rattle.std.proofs.lemmas.List.Elements.{Contains-get_or}
+use Rattle.std.proofs.lemmas.List.Sorted.{Contains-permutation, IsPermutation-sym}
 use Rattle.node_groups.specs.declared.segments.Segment.{Segment}
 use Rattle.node_groups.specs.declared.ends.End.{End}
 use Rattle.node_groups.specs.Reach.{Reaches}
 use Rattle.node_groups.specs.Touch.{HasEnd, Touch}
-use Rattle.node_groups.specs.Ends.{end_at, ends_from, Shares}
+use Rattle.node_groups.specs.Ends.{AreEndsOf, end_at, Shares}
 use Rattle.node_groups.specs.Groups.{GroupsByReach, NamedByLowest}
 use Rattle.node_groups.proofs.ReachLaws.{Reaches-step, Reaches-within}
-use Rattle.node_groups.proofs.EndLemmas.{ends_all, ends_contain}
-
--- the end is one of the segment at its place
-pub record IsEndIn (segments : List Segment) (e : End) : Type 0 where
-  pub segment : Segment
-  pub is : slice_get segments e.place ≡ Some segment
-  pub part : segment.part ≡ e.part
-  pub node : HasEnd segment e.node
 
 -- groups by one relation are groups by another with the same steps
 module _ (R S : ℕ → ℕ → Type 0) (forth : (i j : ℕ) → R i j → S i j) (back : (i j : ℕ) → S i j → R i j) where
@@ -36,24 +28,22 @@ module _ (R S : ℕ → ℕ → Type 0) (forth : (i j : ℕ) → R i j → S i j
       let h = by i within in
       record { reaches = reach_forth _ i h.reaches; lowest = λ k reached. h.lowest k (reach_back k i reached) }
 
-module _ (segments : List Segment) (ends : List End) (same : IsPermutation (ends_from 0 segments) ends) where
-  pub ends_are : All (IsEndIn segments) ends
-  ends_are = All-permutation (IsEndIn segments) (ends_from 0 segments) ends same
-      (All-from_recursion (IsEndIn segments) (ends_from 0 segments) (ends_all (IsEndIn segments) 0 segments
-      (λ k s node is at_end. record { segment = s; is = rw zero-add is; part = refl; node = at_end })))
-
+module _ (segments : List Segment) (ends : List End) (are : AreEndsOf segments ends) where
   pub ends_below : All (λ e. e.place < length segments) ends
-  ends_below k d below = let h = ends_are k d below in slice_get_within segments _ _ h.is
+  ends_below k d below =
+      let e : End = get_or ends k d in
+      let is = (are.each e).0 (Contains-get_or ends k d below) in
+      slice_get_within segments e.place is.segment is.is
 
-  pub ends_have : (k : ℕ) (s : Segment) (node : ℕ) → slice_get segments k ≡ Some s → HasEnd s node → Contains ends (end_at s.part node k)
-  ends_have k s node is at_end = rw zero-add at (Contains-permutation (ends_from 0 segments) ends _ same (ends_contain 0 segments k s node is at_end))
+  pub ends_have : (k : ℕ) (s : Segment) (node : ℕ) → slice_get segments k ≡ Some s → HasEnd s node → Contains ends (end_at node s.part k)
+  ends_have k s node is at_end = (are.each (end_at node s.part k)).1 (record { segment = s; is = is; part = refl; node = at_end })
 
   module _ (barriers sorted : List ℕ) (sort : IsPermutation barriers sorted) where
     pub touch_from_shares : (i j : ℕ) → Shares ends sorted i j → Touch segments barriers i j
     unfolding Shares
     touch_from_shares i j (e, f, e_in, f_in, e_at, f_at, meet) =
-        let first = All-contains (IsEndIn segments) ends e ends_are e_in in
-        let second = All-contains (IsEndIn segments) ends f ends_are f_in in
+        let first = (are.each e).0 e_in in
+        let second = (are.each f).0 f_in in
         record {
           first = first.segment;
           second = second.segment;
@@ -69,8 +59,8 @@ module _ (segments : List Segment) (ends : List End) (same : IsPermutation (ends
     pub shares_from_touch : (i j : ℕ) → Touch segments barriers i j → Shares ends sorted i j
     unfolding Shares
     shares_from_touch i j touch = (
-      end_at touch.first.part touch.node i,
-      end_at touch.second.part touch.node j,
+      end_at touch.node touch.first.part i,
+      end_at touch.node touch.second.part j,
       ends_have i touch.first touch.node touch.at_first touch.end_of_first,
       ends_have j touch.second touch.node touch.at_second touch.end_of_second,
       refl,

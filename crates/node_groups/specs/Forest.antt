@@ -16,12 +16,12 @@ abbrev pub IsRoot : List ℕ → ℕ → Type 0
 IsRoot parents item = HasParent parents item item
 
 -- one of the two items is the parent of the other
-unfoldable pub Linked : List ℕ → ℕ → ℕ → Type 0
-Linked parents i j = HasParent parents i j ⊎ HasParent parents j i
+unfoldable pub IsParentOrChild : List ℕ → ℕ → ℕ → Type 0
+IsParentOrChild parents i j = HasParent parents i j ⊎ HasParent parents j i
 
 -- the two items stand in one tree
 unfoldable pub Joined : List ℕ → ℕ → ℕ → Type 0
-Joined parents i j = Reaches (Linked parents) i j
+Joined parents i j = Reaches (IsParentOrChild parents) i j
 
 -- the same items stand in one tree before and after
 unfoldable pub JoinsAlike : List ℕ → List ℕ → Type 0

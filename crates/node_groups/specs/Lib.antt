@@ -4,4 +4,3 @@ pub mod Forest
 pub mod Ends
 pub mod Groups
 pub mod Parts
-pub mod Counts

@@ -1,3 +1,5 @@
+//! What is grouped.
+
 /// A piece that joins two nodes within one part, as a cell of track joins its two ends within one section.
 #[derive(Clone, Copy, Debug, PartialEq, Eq)]
 pub struct Segment {

@@ -1,5 +1,8 @@
+//! Segments in groups, parts that fall apart, and the ends at a node. Each wanted value is read off a drawing.
+
+use crate::ends::{End, ends_at, sorted_ends};
 use crate::groups::groups_of;
-use crate::parts::{first_bad_part, first_cyclic_part, first_split_part};
+use crate::parts::first_split_part;
 use crate::segments::Segment;
 use std::alloc::{AllocError, Global};
 use std::process::Abort;
@@ -60,31 +63,27 @@ fn groups_segments_by_the_open_nodes_that_they_share(rt: HostRuntime) -> Result<
     Ok(())
 }
 
-/// Wants the lowest part that is split, the lowest that is cyclic, and the lowest that is no tree.
-fn check_parts(
+/// Wants the lowest part that is not connected.
+fn check_split(
     rt: &impl Abort,
     alloc: Global,
     triples: Triples,
-    want: [Option<u32>; 3],
+    want: Option<u32>,
 ) -> Result<(), Fail> {
     let segments = segments_of(alloc, triples)?;
     assert!(rt; segments.len() < 1000);
-    let split = first_split_part(alloc, &segments)?;
-    let cyclic = first_cyclic_part(alloc, &segments)?;
-    let bad = first_bad_part(alloc, &segments)?;
-    assert_eq!(rt; [split, cyclic, bad], want);
+    let ends = sorted_ends(alloc, &segments)?;
+    assert_eq!(rt; first_split_part(alloc, &segments, &ends)?, want);
     Ok(())
 }
 
-// Segments, and the lowest part that is split, the lowest that is cyclic, and the lowest that is no tree.
-static PARTS: [(Triples, [Option<u32>; 3]); 7] = [
-    (&[], [None, None, None]),
+// Segments, and the lowest part that is not connected.
+static PARTS: [(Triples, Option<u32>); 8] = [
+    (&[], None),
     // two parts that share a node
-    (&[(1, 2, 7), (3, 2, 7), (3, 9, 5)], [None, None, None]),
-    // three legs at one node
-    (&[(4, 8, 6), (8, 5, 6), (6, 8, 6)], [None, None, None]),
+    (&[(1, 2, 7), (3, 2, 7), (3, 9, 5)], None),
     // what only another part joins
-    (&[(1, 2, 8), (2, 3, 4), (3, 4, 8)], [Some(8), None, Some(8)]),
+    (&[(1, 2, 8), (2, 3, 4), (3, 4, 8)], Some(8)),
     // a ring with a branch in part 3, and a split in part 5
     (
         &[
@@ -95,21 +94,43 @@ static PARTS: [(Triples, [Option<u32>; 3]); 7] = [
             (3, 4, 3),
             (6, 7, 5),
         ],
-        [Some(5), Some(3), Some(3)],
+        Some(5),
     ),
-    // two segments between the same two nodes in part 9, and a split in part 2
-    (
-        &[(1, 2, 9), (2, 1, 9), (1, 2, 2), (3, 4, 2)],
-        [Some(2), Some(9), Some(2)],
-    ),
+    // two rings that share a node
+    (&[(1, 2, 3), (2, 1, 3), (2, 4, 3), (4, 2, 3)], None),
+    // two rings that share none
+    (&[(1, 2, 3), (2, 1, 3), (3, 4, 3), (4, 3, 3)], Some(3)),
+    // splits in the parts 9 and 2
+    (&[(1, 2, 9), (3, 4, 9), (1, 2, 2), (3, 4, 2)], Some(2)),
     // a segment from a node to itself, with the highest numbers
-    (&[(1, 2, 0), (TOP, TOP, TOP)], [None, Some(TOP), Some(TOP)]),
+    (&[(1, 2, 0), (TOP, TOP, TOP)], None),
 ];
 
 #[test]
-fn finds_the_lowest_part_that_is_no_tree(rt: HostRuntime) -> Result<(), Fail> {
+fn finds_the_lowest_part_that_is_not_connected(rt: HostRuntime) -> Result<(), Fail> {
     for (triples, want) in PARTS {
-        check_parts(&rt, rt.alloc(), triples, want)?;
+        check_split(&rt, rt.alloc(), triples, want)?;
     }
     Ok(())
+}
+
+#[test]
+fn gives_the_ends_at_a_node(rt: HostRuntime) -> Result<(), Fail> {
+    let alloc = rt.alloc();
+    let segments = segments_of(alloc, &[(7, 3, 1), (3, 5, 0), (3, 9, 0)])?;
+    assert!(&rt; segments.len() < 1000);
+    let ends = sorted_ends(alloc, &segments)?;
+    let want = [end(0, 1), end(0, 2), end(1, 0)];
+    assert_eq!(&rt; ends_at(&ends, 3), want.as_slice());
+    assert_eq!(&rt; ends_at(&ends, 4).len(), 0);
+    Ok(())
+}
+
+/// An end at node 3.
+fn end(part: u32, place: u32) -> End {
+    End {
+        node: 3,
+        part,
+        place,
+    }
 }

@@ -1,137 +1,64 @@
--- A plan has one first breach at most.
-use Rattle.std.proofs.Common.{◌≡◌, ◌⊎◌, inl, inr, ℕ, List, Some, slice_get, refl, sym, subst, ◌∙◌}
+-- A plan has one first breach at most, and then it isn't lawful.
+use Rattle.std.proofs.Common.{◌≡◌, List, Some, slice_get, ℕ, sym, subst, ◌∙◌}
 use Rattle.std.proofs.lemmas.Option.{same_Some}
-use Rattle.vss_lists.specs.Breaks.{BreaksFirstAt}
+use Rattle.vss_lists.proofs.OrderLaws.{AreSound, IsSound, not_kept, one_broken, one_place, sound_each, sound_rule, sound_rules}
+use Rattle.cell_net.specs.Plans.{IsLawful}
 use Rattle.cell_net.specs.declared.ids.CandidateId.{CandidateId}
-use Rattle.cell_net.specs.declared.ids.CellId.{CellId}
 use Rattle.cell_net.specs.declared.ids.TrainId.{TrainId}
 use Rattle.cell_net.specs.declared.plans.Plan.{Plan}
+use Rattle.cell_net.specs.declared.plans.TrainRun.{TrainRun}
+use Rattle.cell_net.specs.declared.trains.TrainSpec.{TrainSpec}
 use Rattle.cell_net.specs.declared.parts.InstanceParts.{InstanceParts}
-use Rattle.cell_net.proofs.RefusalLaws.{broken, one_place}
-use Rattle.layout_rules.specs.declared.sweeps.SweepFault.TheVariants as SweepFaults
-use Rattle.plan_checker.specs.Clashes.{IsFirstClash}
 use Rattle.plan_checker.specs.Laws.{HasOneFirstBreach}
-use Rattle.plan_checker.specs.Verdicts.{FailsFirst, HaveRuns, HoldsKept, IsFirstBreach, IsHeld, breach_of_fault}
-use Rattle.plan_checker.specs.declared.judging.Breach.{Breach}
-use Rattle.plan_checker.specs.declared.judging.Breach.TheVariants as Breaches
-use Rattle.plan_checker.specs.declared.runs.RunFault.{RunFault}
-use Rattle.plan_checker.specs.declared.runs.RunFault.TheVariants as RunFaults
-use Rattle.plan_checker.proofs.ClashLaws.{one_pair, one_pair_of_cells, one_step}
-use Rattle.plan_checker.proofs.FaultLaws.{one_first_fault, one_train}
-use Rattle.plan_checker.proofs.JudgingLemmas.{no_fault, zip_at}
+use Rattle.plan_checker.specs.RunRules.{rules_of_run}
+use Rattle.plan_checker.specs.Verdicts.{IsFirstBreach, IsHeld, rule_of_clashes, rule_of_kept, rules_of_plan}
+use Rattle.plan_checker.specs.declared.breach.Breach.{Breach}
+use Rattle.plan_checker.proofs.ClashLaws.{not_apart, one_pair, one_pair_of_cells, one_step}
+use Rattle.plan_checker.proofs.JudgingLemmas.{rules_kept}
 
--- the breach is a kept border that the layout lacks, the first
-record Lacks (p : InstanceParts) (borders : List CandidateId) (breach : Breach) : Type 0 where
-  pub candidate : CandidateId
-  pub is : breach ≡ Breaches.Border candidate
-  pub place : ℕ
-  pub first : BreaksFirstAt (IsHeld borders) p.kept place
-  pub is_there : slice_get p.kept place ≡ Some candidate
+sound_kept : (p : InstanceParts) (borders : List CandidateId) → IsSound (rule_of_kept p borders)
+sound_kept p borders = record {
+  excludes = λ breach (place, candidate, is, first, there) kept. first.breaks (kept.at_each place first.item first.is_there);
+  one = λ one other (place, candidate, is, first, there) (place', candidate', is', first', there').
+      let at : place ≡ place' = one_place (IsHeld borders) p.kept place place' first first' in
+      let same : candidate ≡ candidate' = same_Some candidate candidate' (sym (subst (λ (k : ℕ). slice_get p.kept k ≡ Some candidate) at there) ∙ there') in
+      cc;
+}
 
--- the breach is the fault of a run, the first
-record Fails (p : InstanceParts) (borders : List CandidateId) (plan : Plan) (breach : Breach) : Type 0 where
-  pub train : TrainId
-  pub fault : RunFault
-  pub is : breach ≡ breach_of_fault train fault
-  pub kept : HoldsKept p borders
-  pub first : FailsFirst p plan.runs train.0 fault
-
--- the breach is a clash, the first
-record Clashes (p : InstanceParts) (borders : List CandidateId) (plan : Plan) (breach : Breach) : Type 0 where
-  pub a : TrainId
-  pub b : TrainId
-  pub step : ℕ
-  pub e : CellId
-  pub f : CellId
-  pub is : breach ≡ Breaches.Apart a b step e f
-  pub kept : HoldsKept p borders
-  pub runs : HaveRuns p plan.runs
-  pub first : IsFirstClash p borders plan.runs a.0 b.0 step e f
-
--- a first breach is of one of the three kinds
-kind : (p : InstanceParts) (borders : List CandidateId) (plan : Plan) (breach : Breach) → IsFirstBreach p borders plan breach →
-    Lacks p borders breach ⊎ (Fails p borders plan breach ⊎ Clashes p borders plan breach)
-kind p borders plan (Breaches.Border candidate) is =
-    inl (record { candidate = candidate; is = refl; place = is.0; first = is.1; is_there = is.2 })
-kind p borders plan (Breaches.Entry train) is =
-    inr (inl (record { train = train; fault = RunFaults.Entry; is = refl; kept = is.0; first = is.1 }))
-kind p borders plan (Breaches.Path train step) is =
-    inr (inl (record { train = train; fault = RunFaults.NoSweep step SweepFaults.Path; is = refl; kept = is.0; first = is.1 }))
-kind p borders plan (Breaches.Length train step) is =
-    inr (inl (record { train = train; fault = RunFaults.NoSweep step SweepFaults.Length; is = refl; kept = is.0; first = is.1 }))
-kind p borders plan (Breaches.Speed train step) is =
-    inr (inl (record { train = train; fault = RunFaults.NoSweep step SweepFaults.Speed; is = refl; kept = is.0; first = is.1 }))
-kind p borders plan (Breaches.Join train step) is =
-    inr (inl (record { train = train; fault = RunFaults.Join step; is = refl; kept = is.0; first = is.1 }))
-kind p borders plan (Breaches.Late train step) is =
-    inr (inl (record { train = train; fault = RunFaults.Late step; is = refl; kept = is.0; first = is.1 }))
-kind p borders plan (Breaches.Stop train stop) is =
-    inr (inl (record { train = train; fault = RunFaults.Stop stop; is = refl; kept = is.0; first = is.1 }))
-kind p borders plan (Breaches.Apart a b step e f) is =
-    inr (inr (record { a = a; b = b; step = step; e = e; f = f; is = refl; kept = is.0; runs = is.1; first = is.2 }))
+sound_run : (p : InstanceParts) (train : TrainId) (t : TrainSpec) (r : TrainRun) → AreSound (rules_of_run p train t r)
+sound_run p train t r = (
+  sound_rule _ _,
+  (
+    sound_rules _ _ (λ place w. (sound_rule _ _, (sound_rule _ _, (sound_rule _ _, (sound_rule _ _, tt))))),
+    (sound_rule _ _, (sound_each _ _ _, tt)),
+  ),
+)
 
 same_train : (a b : TrainId) → a.0 ≡ b.0 → a ≡ b
 same_train a b same = λ i. record { 0 = same i }
 
-one_lack : (p : InstanceParts) (borders : List CandidateId) (one other : Breach) → Lacks p borders one → Lacks p borders other → one ≡ other
-one_lack p borders one other first second =
-    let at : first.place ≡ second.place = one_place _ _ first.place second.place first.first second.first in
-    let here : slice_get p.kept second.place ≡ Some first.candidate =
-    subst (λ (k : ℕ). slice_get p.kept k ≡ Some first.candidate) at first.is_there in
-    let candidate : first.candidate ≡ second.candidate = same_Some first.candidate second.candidate (sym here ∙ second.is_there) in
-    let is = first.is in
-    let is' = second.is in
-    cc
+sound_clashes : (p : InstanceParts) (borders : List CandidateId) (runs : List TrainRun) → IsSound (rule_of_clashes p borders runs)
+sound_clashes p borders runs = record {
+  excludes = λ breach (a, b, step, e, f, is, clash) kept. not_apart p borders runs a.0 b.0 step e f clash (kept step a.0 b.0 clash.in_order);
+  one = λ one other (a, b, step, e, f, is, clash) (x, y, s, g, h, is', clash').
+      let at : step ≡ s = one_step p borders runs a.0 b.0 step x.0 y.0 s e f g h clash clash' in
+      let pair = one_pair p borders runs a.0 b.0 step x.0 y.0 s e f g h clash clash' in
+      let cells = one_pair_of_cells p borders runs a.0 b.0 step x.0 y.0 s e f g h clash clash' in
+      let first : a ≡ x = same_train a x pair.0 in
+      let second : b ≡ y = same_train b y pair.1 in
+      let third : e ≡ g = cells.0 in
+      let fourth : f ≡ h = cells.1 in
+      cc;
+}
 
-one_failure : (p : InstanceParts) (borders : List CandidateId) (plan : Plan) (one other : Breach) → Fails p borders plan one → Fails p borders plan other → one ≡ other
-one_failure p borders plan one other first second =
-    let train : first.train ≡ second.train =
-    same_train first.train second.train (one_train p plan.runs first.train.0 second.train.0 first.fault second.fault first.first second.first) in
-    let fault : first.fault ≡ second.fault = one_first_fault p plan.runs first.train.0 second.train.0 first.fault second.fault first.first second.first in
-    let told : breach_of_fault first.train first.fault ≡ breach_of_fault second.train second.fault =
-    subst (λ (f : RunFault). breach_of_fault first.train first.fault ≡ breach_of_fault second.train f) fault
-    (subst (λ (t : TrainId). breach_of_fault first.train first.fault ≡ breach_of_fault t first.fault) train refl) in
-    first.is ∙ (told ∙ sym second.is)
-
-one_clash : (p : InstanceParts) (borders : List CandidateId) (plan : Plan) (one other : Breach) → Clashes p borders plan one → Clashes p borders plan other → one ≡ other
-one_clash p borders plan one other c d =
-    let step : c.step ≡ d.step = one_step p borders plan.runs c.a.0 c.b.0 c.step d.a.0 d.b.0 d.step c.e c.f d.e d.f c.first d.first in
-    let pair = one_pair p borders plan.runs c.a.0 c.b.0 c.step d.a.0 d.b.0 d.step c.e c.f d.e d.f c.first d.first in
-    let cells = one_pair_of_cells p borders plan.runs c.a.0 c.b.0 c.step d.a.0 d.b.0 d.step c.e c.f d.e d.f c.first d.first in
-    let a : c.a ≡ d.a = same_train c.a d.a pair.0 in
-    let b : c.b ≡ d.b = same_train c.b d.b pair.1 in
-    let e : c.e ≡ d.e = cells.0 in
-    let f : c.f ≡ d.f = cells.1 in
-    let is = c.is in
-    let is' = d.is in
-    cc
-
--- what lacks no kept border has no breach of the first kind
-not_lacking : (p : InstanceParts) (borders : List CandidateId) (breach : Breach) → HoldsKept p borders → ¬ Lacks p borders breach
-not_lacking p borders breach kept lacks = broken _ _ lacks.place lacks.first kept
-
--- where each train has its run, no run has a fault
-not_failing : (p : InstanceParts) (borders : List CandidateId) (plan : Plan) (breach : Breach) → HaveRuns p plan.runs → ¬ Fails p borders plan breach
-not_failing p borders plan breach runs fails =
-    let first = fails.first in
-    no_fault p first.spec first.run fails.fault first.is_fault
-    (zip_at _ p.trains plan.runs runs fails.train.0 first.spec first.run first.is_spec first.is_run)
+sound_plan : (p : InstanceParts) (borders : List CandidateId) (plan : Plan) → AreSound (rules_of_plan p borders plan)
+sound_plan p borders plan =
+    (sound_kept p borders, (sound_rules _ _ (λ place both. sound_run p (record { 0 = place }) both.0 both.1), (sound_clashes p borders plan.runs, tt)))
 
 pub one_first_breach : (p : InstanceParts) (borders : List CandidateId) (plan : Plan) → HasOneFirstBreach p borders plan
-one_first_breach p borders plan one other first second = elim (kind p borders plan one first) [
-  | inl lacks ↦ elim (kind p borders plan other second) [
-    | inl lacks' ↦ one_lack p borders one other lacks lacks'
-    | inr (inl fails) ↦ absurd (not_lacking p borders one fails.kept lacks)
-    | inr (inr clashes) ↦ absurd (not_lacking p borders one clashes.kept lacks)
-  ]
-  | inr (inl fails) ↦ elim (kind p borders plan other second) [
-    | inl lacks ↦ absurd (not_lacking p borders other fails.kept lacks)
-    | inr (inl fails') ↦ one_failure p borders plan one other fails fails'
-    | inr (inr clashes) ↦ absurd (not_failing p borders plan one clashes.runs fails)
-  ]
-  | inr (inr clashes) ↦ elim (kind p borders plan other second) [
-    | inl lacks ↦ absurd (not_lacking p borders other clashes.kept lacks)
-    | inr (inl fails) ↦ absurd (not_failing p borders plan other clashes.runs fails)
-    | inr (inr clashes') ↦ one_clash p borders plan one other clashes clashes'
-  ]
-]
+one_first_breach p borders plan = one_broken (rules_of_plan p borders plan) (sound_plan p borders plan)
+
+-- a plan with a breach isn't lawful
+pub not_lawful : (p : InstanceParts) (borders : List CandidateId) (plan : Plan) (breach : Breach) → IsFirstBreach p borders plan breach → ¬ IsLawful p borders plan
+not_lawful p borders plan breach first lawful =
+    not_kept (rules_of_plan p borders plan) (sound_plan p borders plan) breach first (rules_kept p borders plan lawful)

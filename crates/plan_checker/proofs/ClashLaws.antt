@@ -68,7 +68,7 @@ same_cells p borders one other e f g h found again =
     (cc, cc)
 
 -- the two trains of a clash aren't apart
-not_apart : (p : InstanceParts) (borders : List CandidateId) (runs : List TrainRun) (a b step : ℕ) (e f : CellId) →
+pub not_apart : (p : InstanceParts) (borders : List CandidateId) (runs : List TrainRun) (a b step : ℕ) (e f : CellId) →
     IsFirstClash p borders runs a b step e f → ¬ AreApartAt p borders runs step a b
 unfolding AreApartAt
 not_apart p borders runs a b step e f clash apart =

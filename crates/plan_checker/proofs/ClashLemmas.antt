@@ -10,8 +10,8 @@ use Rattle.cell_net.specs.declared.trains.TrainSpec.{TrainSpec}
 use Rattle.layout_rules.specs.Classes.{AreClasses}
 use Rattle.plan_checker.specs.Clashes.{IsFirstClash}
 use Rattle.plan_checker.specs.ClashSearch.{AreAllApart, AreApart, IsApartFromLater, IsClash, IsFirstClashAt, IsFirstClashOf, IsSound, Touches}
-use Rattle.plan_checker.specs.declared.clashes.Clash.{Clash}
-use Rattle.plan_checker.specs.declared.pairs.Traffic.{Traffic}
+use Rattle.plan_checker.specs.declared.clash.Clash.{Clash}
+use Rattle.plan_checker.specs.declared.traffic.Traffic.{Traffic}
 use Rattle.plan_checker.proofs.ListSteps.{zipped_lengths, zipped_with}
 use Rattle.plan_checker.proofs.PairLemmas.{apart_without_first, apart_without_second}
 

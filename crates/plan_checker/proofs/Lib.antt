@@ -6,6 +6,5 @@ mod PairLemmas
 mod ClashLemmas
 mod MarkLemmas
 mod JudgingLemmas
-mod FaultLaws
 mod ClashLaws
 mod BreachLaws

@@ -10,7 +10,7 @@ use Rattle.cell_net.specs.declared.plans.Sweep.{Sweep}
 use Rattle.cell_net.specs.declared.plans.TrainRun.{TrainRun}
 use Rattle.plan_checker.specs.Clashes.{HasSweep, AreApartAt, AreFirstLinked}
 use Rattle.plan_checker.specs.ClashSearch.{AreApart, AreLinked, IsClash, IsFirstLinkedTo, IsSeparatedFromAll, Touches}
-use Rattle.plan_checker.specs.declared.pairs.Traffic.{Traffic}
+use Rattle.plan_checker.specs.declared.traffic.Traffic.{Traffic}
 use Rattle.plan_checker.proofs.ListSteps.{get_contained}
 
 pub has_sweep : (runs : List TrainRun) (train step : ℕ) (r : TrainRun) (w : Sweep) → train < length runs → IsSweepAt (slice_index_or runs train r) step w → HasSweep runs train step w

@@ -1,16 +1,15 @@
 -- What the levels of the search for the first clash say, which only this crate's code and proofs see.
-use Rattle.std.specs.Prelude.{◌≡◌, ◌<◌, ℕ, List, length, All, Option, Some, slice_get}
+use Rattle.std.specs.Prelude.{◌≡◌, ◌<◌, ℕ, List, length, All, Some, slice_get}
 use Rattle.vss_lists.specs.Breaks.{HoldsBelow, HoldsOfEach}
 use Rattle.cell_net.specs.Space.{IsCell}
 use Rattle.cell_net.specs.Borders.{Linked}
 use Rattle.cell_net.specs.declared.ids.CellId.{CellId}
 use Rattle.cell_net.specs.declared.cells.DirCell.{DirCell}
 use Rattle.cell_net.specs.declared.plans.Sweep.{Sweep}
-use Rattle.layout_rules.specs.Classes.{AreClasses, class_of}
+use Rattle.layout_rules.specs.Classes.{AreClasses}
 use Rattle.plan_checker.specs.Clashes.{HasSweep, AreApartAt, ComesBefore, AreFirstLinked}
-use Rattle.plan_checker.specs.declared.clashes.Clash.{Clash}
-use Rattle.plan_checker.specs.declared.marks.Mark.{Mark}
-use Rattle.plan_checker.specs.declared.pairs.Traffic.{Traffic}
+use Rattle.plan_checker.specs.declared.clash.Clash.{Clash}
+use Rattle.plan_checker.specs.declared.traffic.Traffic.{Traffic}
 
 -- the cells are cells of the instance
 abbrev pub AreCells : Traffic → List DirCell → Type 0
@@ -83,23 +82,3 @@ pub record IsFirstClashAt (t : Traffic) (step : ℕ) (k : Clash) : Type 0 where
   pub pairs_before : (x y : ℕ) → x < y → ComesBefore x y k.a.0 k.b.0 → AreApart t step x y
   pub in_order : k.a.0 < k.b.0
   pub clash : IsClash t step k.a.0 k.b.0 k.e k.f
-
--- the last mark at the class is that of the train at the step
-abbrev pub IsMarked : List (Option Mark) → ℕ → ℕ → ℕ → Type 0
-IsMarked marks step train class = slice_get marks class ≡ Some (Some (record { step = step; train = train }))
-
--- if the mark was made at the step, the train made it
-abbrev pub IsFreeFor : Option Mark → ℕ → ℕ → Type 0
-IsFreeFor mark step train = (other : ℕ) → mark ≡ Some (record { step = step; train = other }) → other ≡ train
-
--- each class that was marked at the step is still marked by the same train
-pub record KeepsMarks (step : ℕ) (old new : List (Option Mark)) : Type 0 where
-  pub kept : (train class : ℕ) → IsMarked old step train class → IsMarked new step train class
-
--- the class of the cell is marked by the train at the step
-abbrev pub IsClassMarked : List ℕ → List (Option Mark) → ℕ → ℕ → ℕ → DirCell → Type 0
-IsClassMarked classes marks step train place d = IsMarked marks step train (class_of classes d.cell)
-
--- the classes of what the train touches at the step are marked by it
-pub record IsTrainMarked (t : Traffic) (marks : List (Option Mark)) (step train : ℕ) : Type 0 where
-  pub each : (w : Sweep) → Touches t train step w → HoldsOfEach (IsClassMarked t.classes.now marks step train) w.cells

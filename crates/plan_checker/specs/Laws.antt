@@ -4,7 +4,7 @@ use Rattle.cell_net.specs.declared.ids.CandidateId.{CandidateId}
 use Rattle.cell_net.specs.declared.plans.Plan.{Plan}
 use Rattle.cell_net.specs.declared.parts.InstanceParts.{InstanceParts}
 use Rattle.plan_checker.specs.Verdicts.{IsFirstBreach}
-use Rattle.plan_checker.specs.declared.judging.Breach.{Breach}
+use Rattle.plan_checker.specs.declared.breach.Breach.{Breach}
 
 -- under the borders, the plan has one first breach at most: one kind, one train or two, one step, one place
 abbrev pub HasOneFirstBreach : InstanceParts → List CandidateId → Plan → Type 0

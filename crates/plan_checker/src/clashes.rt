@@ -1,26 +1,20 @@
-ghost use Rattle.std.specs.Prelude.{◌≡◌, ◌<◌, IfOk, MatchOption, length, ℕ};
+//! The first clash of two trains, step by step.
+
+ghost use Rattle.std.specs.Prelude.{◌≡◌, ◌+◌, ◌<◌, IfOk, MatchOption, length, ℕ};
 ghost use Rattle.std.specs.List.{AllZip};
 ghost use Rattle.cell_net.specs.Runs.{IsRun};
 ghost use Rattle.layout_rules.specs.Classes.{AreClasses};
 ghost use Rattle.plan_checker.specs.Clashes.{AreApartAt, IsFirstClash};
+ghost use Rattle.plan_checker.specs.ClassMarks.{AreEarlier};
 ghost use Rattle.plan_checker.specs.ClashSearch.{AreAllApart, AreApart, IsFirstClashAt, IsSound};
 
-use crate::marks::{Mark, are_clearly_apart, no_marks};
-use crate::pairs::{Traffic, first_clash_at};
-use cell_net::{CellId, Instance, Layout, Plan, TrainId};
+use crate::clash::Clash;
+use crate::marks::{Mark, are_all_apart, no_marks};
+use crate::pairs::first_clash_at;
+use crate::traffic::Traffic;
+use cell_net::{Instance, Layout, Plan};
 use layout_rules::Classes;
 use std::alloc::{AllocError, Global};
-
-/// Two trains of a plan that aren't apart at a step, and by which cells: `a` touches `e` there, and
-/// `b` touches `f`.
-#[derive(Clone, Copy, Debug)]
-pub(crate) struct Clash {
-    pub a: TrainId,
-    pub b: TrainId,
-    pub step: u32,
-    pub e: CellId,
-    pub f: CellId,
-}
 
 /// The first clash of two trains: at the first step, there of the first pair of trains, by the first
 /// linked cells of their sweeps. Takes memory linear in the cells of the instance, and where no two
@@ -52,6 +46,7 @@ pub(crate) fn first_clash(
 fn first_clash_in(traffic: &Traffic, marks: &mut [Option<Mark>]) -> Option<Clash>
     requires sound { IsSound traffic.now }
     requires marks { length marks.old ≡ length traffic.now.inst.now.cells }
+    requires none { AreEarlier 0 marks.old }
     ensures { MatchOption result
         ((step x y : ℕ) → x < y → AreApart traffic.now step x y)
         (λ k. IsFirstClash traffic.now.inst.now traffic.now.layout.now traffic.now.runs.now k.a.0 k.b.0 k.step k.e k.f) }
@@ -65,14 +60,15 @@ fn first_clash_in(traffic: &Traffic, marks: &mut [Option<Mark>]) -> Option<Clash
     None
 }
 
-/// The clash of the first pair of trains at the step. Compares pairs only where the marks don't show
-/// that there is none.
+/// The clash of the first pair of trains at the step. Compares pairs only where two trains aren't apart.
 fn clash_at(traffic: &Traffic, step: u32, marks: &mut [Option<Mark>]) -> Option<Clash>
     requires sound { IsSound traffic.now }
     requires marks { length marks.old ≡ length traffic.now.inst.now.cells }
-    ensures { MatchOption result (AreAllApart traffic.now step) (IsFirstClashAt traffic.now step) }
+    requires earlier { AreEarlier step marks.old }
+    ensures clash { MatchOption result (AreAllApart traffic.now step) (IsFirstClashAt traffic.now step) }
+    ensures earlier { AreEarlier (step + 1) marks.new }
 {
-    if are_clearly_apart(traffic, step, marks) {
+    if are_all_apart(traffic, step, marks) {
         return None;
     }
     first_clash_at(traffic, step)

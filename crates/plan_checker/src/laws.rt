@@ -1,3 +1,5 @@
+//! The law of breaches, for the proofs of callers.
+
 ghost use Rattle.std.specs.Prelude.{List};
 ghost use Rattle.cell_net.specs.declared.ids.CandidateId.{CandidateId};
 ghost use Rattle.cell_net.specs.declared.parts.InstanceParts.{InstanceParts};

@@ -1,6 +1,8 @@
 //! The judge of plans: whether a plan is lawful under a layout, or else its first breach.
 #![tactic(auto)]
 
+mod breach;
+mod clash;
 mod clashes;
 mod judging;
 mod laws;
@@ -9,6 +11,8 @@ mod pairs;
 mod runs;
 mod stops;
 mod sweeps;
+mod traffic;
 
-pub use judging::{Breach, Verdict, judge};
+pub use breach::Breach;
+pub use judging::{Verdict, judge};
 pub use laws::first_breaches_are_one;

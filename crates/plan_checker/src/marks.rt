@@ -1,9 +1,13 @@
-ghost use Rattle.std.specs.Prelude.{◌≡◌, ◌<◌, ◌↔◌, All, IfOk, IsTrue, length};
+//! Marks of the classes that trains touch at a step.
+
+ghost use Rattle.std.specs.Prelude.{◌≡◌, ◌+◌, ◌<◌, ◌⊎◌, ◌↔◌, ℕ, All, IfOk, IsTrue, length};
+ghost use Rattle.std.specs.Bool.{OnFalse};
 ghost use Rattle.vss_lists.specs.Breaks.{HoldsOfEach};
 ghost use Rattle.layout_rules.specs.Classes.{class_of};
-ghost use Rattle.plan_checker.specs.ClashSearch.{AreAllApart, IsClassMarked, IsFreeFor, IsMarked, IsSound, IsTrainMarked, KeepsMarks};
+ghost use Rattle.plan_checker.specs.ClashSearch.{AreAllApart, IsSound};
+ghost use Rattle.plan_checker.specs.ClassMarks.{AreEarlier, AreOfTrains, IsClassMarked, IsFreeFor, IsMarked, IsOneTaken, IsTaken, IsTrainMarked, KeepsMarks, MarksOnly};
 
-use crate::pairs::{Traffic, sweep_at};
+use crate::traffic::{Traffic, sweep_at};
 use cell_net::DirCell;
 use layout_rules::Classes;
 use std::alloc::{AllocError, Global};
@@ -17,17 +21,20 @@ pub(crate) struct Mark {
 
 /// No mark, for each of so many classes.
 pub(crate) fn no_marks(alloc: Global, count: usize) -> Result<Vec<Option<Mark>>, AllocError>
-    ensures { IfOk result (λ marks. length marks.items ≡ count) }
+    ensures len { IfOk result (λ marks. length marks.items ≡ count) }
+    ensures none { IfOk result (λ marks. AreEarlier 0 marks.items) }
 {
     vec![in alloc; None; count]
 }
 
-/// Whether no two trains touch one class at the step, which shows that all are apart; linear in the
-/// cells of the sweeps at the step.
-pub(crate) fn are_clearly_apart(traffic: &Traffic, step: u32, marks: &mut [Option<Mark>]) -> bool
+/// Whether all trains are apart at the step: no two touch one class of linked cells. Linear in the cells of
+/// the sweeps at the step. The marks are those of earlier steps.
+pub(crate) fn are_all_apart(traffic: &Traffic, step: u32, marks: &mut [Option<Mark>]) -> bool
     requires sound { IsSound traffic.now }
     requires marks { length marks.old ≡ length traffic.now.inst.now.cells }
-    ensures { IsTrue result → AreAllApart traffic.now step }
+    requires earlier { AreEarlier step marks.old }
+    ensures apart { IsTrue result ↔ AreAllApart traffic.now step }
+    ensures earlier { AreEarlier (step + 1) marks.new }
 {
     for train in 0..traffic.inst.train_count() {
         if !mark_train(traffic, step, train, marks) {
@@ -42,8 +49,13 @@ fn mark_train(traffic: &Traffic, step: u32, train: u32, marks: &mut [Option<Mark
     requires sound { IsSound traffic.now }
     requires train { train < length traffic.now.runs.now }
     requires marks { length marks.old ≡ length traffic.now.inst.now.cells }
+    requires trains { AreOfTrains traffic.now marks.old step train }
+    requires earlier { AreEarlier (step + 1) marks.old }
     ensures marked { IsTrue result → IsTrainMarked traffic.now marks.new step train }
     ensures kept { KeepsMarks step marks.old marks.new }
+    ensures trains { AreOfTrains traffic.now marks.new step (train + 1) }
+    ensures earlier { AreEarlier (step + 1) marks.new }
+    ensures clash { OnFalse result (¬ AreAllApart traffic.now step) }
 {
     match sweep_at(&traffic.runs[train as usize], step) {
         None => true,
@@ -62,8 +74,12 @@ fn mark_sweep(
 ) -> bool
     requires cells { All (λ d. d.cell.0 < length classes.now) cells.now }
     requires classes { All (λ k. k < length marks.old) classes.now }
+    requires earlier { AreEarlier (step + 1) marks.old }
     ensures marked { IsTrue result → HoldsOfEach (IsClassMarked classes.now marks.new step train) cells.now }
     ensures kept { KeepsMarks step marks.old marks.new }
+    ensures only { MarksOnly step train classes.now cells.now marks.old marks.new }
+    ensures earlier { AreEarlier (step + 1) marks.new }
+    ensures taken { OnFalse result (IsOneTaken classes.now marks.new step train cells.now) }
 {
     for directed in cells {
         if !mark_class(marks, classes.class(directed.cell), step, train) {
@@ -76,9 +92,13 @@ fn mark_sweep(
 /// Marks the class for the train at the step, unless another train did at this step; says whether it
 /// is marked.
 fn mark_class(marks: &mut [Option<Mark>], class: u32, step: u32, train: u32) -> bool
-    requires { class < length marks.old }
+    requires within { class < length marks.old }
+    requires earlier { AreEarlier (step + 1) marks.old }
     ensures marked { IsTrue result → IsMarked marks.new step train class }
     ensures kept { KeepsMarks step marks.old marks.new }
+    ensures only { (other place : ℕ) → IsMarked marks.new step other place → IsMarked marks.old step other place ⊎ ((other ≡ train) × (place ≡ class)) }
+    ensures earlier { AreEarlier (step + 1) marks.new }
+    ensures taken { OnFalse result (IsTaken marks.new step train class) }
 {
     if !is_free_for(marks[class as usize], step, train) {
         return false;

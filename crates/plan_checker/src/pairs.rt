@@ -1,3 +1,5 @@
+//! The first pair of trains that aren't apart at a step.
+
 ghost use Rattle.std.specs.Prelude.{◌≡◌, ◌<◌, ◌↔◌, IsTrue, MatchOption, Some, length, slice_get};
 ghost use Rattle.vss_lists.specs.Breaks.{HoldsOfEach};
 ghost use Rattle.cell_net.specs.Space.{IsCell};
@@ -7,19 +9,9 @@ ghost use Rattle.cell_net.specs.declared.plans.Sweep.{Sweep};
 ghost use Rattle.plan_checker.specs.Clashes.{AreFirstLinked};
 ghost use Rattle.plan_checker.specs.ClashSearch.{AreAllApart, AreApart, AreCells, AreLinked, IsApartFromLater, IsClash, IsFirstClashAt, IsFirstClashOf, IsFirstLinkedTo, IsSeparated, IsSound};
 
-use crate::clashes::Clash;
-use cell_net::{CellId, DirCell, Instance, Layout, Sweep, TrainId, TrainRun};
-use layout_rules::Classes;
-
-/// The runs of the trains of an instance, and the classes of the cells that are linked under a
-/// layout.
-#[derive(Clone, Copy)]
-pub(crate) struct Traffic<'a> {
-    pub inst: &'a Instance,
-    pub layout: &'a Layout,
-    pub classes: &'a Classes,
-    pub runs: &'a [TrainRun],
-}
+use crate::clash::Clash;
+use crate::traffic::{Traffic, sweep_at};
+use cell_net::{CellId, DirCell, TrainId};
 
 /// The clash of the first pair of trains at the step.
 pub(crate) fn first_clash_at(traffic: &Traffic, step: u32) -> Option<Clash>
@@ -69,14 +61,6 @@ fn first_linked_at(traffic: &Traffic, step: u32, a: u32, b: u32) -> Option<(Cell
     let one = sweep_at(&traffic.runs[a as usize], step)?;
     let other = sweep_at(&traffic.runs[b as usize], step)?;
     first_linked(traffic, one.cells.as_slice(), other.cells.as_slice())
-}
-
-/// The sweep of the run at the step, if it has one.
-pub(crate) fn sweep_at(run: &TrainRun, step: u32) -> Option<&Sweep>
-    ensures { MatchOption result ((w : Sweep) → ¬ IsSweepAt run.now step w) (λ w. IsSweepAt run.now step w.now) }
-{
-    let place = step.checked_sub(run.start)?;
-    run.sweeps.get(place as usize)
 }
 
 /// The first linked cells, in the order of the one list, then of the other.

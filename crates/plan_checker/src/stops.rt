@@ -1,9 +1,11 @@
+//! Whether the stops of a run are met.
+
 ghost use Rattle.std.specs.Prelude.{◌≡◌, ◌+◌, ◌<◌, ◌≤◌, ◌↔◌, ◌^◌, All, IfOk, IsTrue, MatchOption, length, slice_index_or, false, true, ℕ};
 ghost use Rattle.vss_lists.specs.Breaks.{HoldsOfEach, BreaksFirstAt};
 ghost use Rattle.cell_net.specs.Rules.{IsGoodStop};
 ghost use Rattle.cell_net.specs.Space.{IsCell};
 ghost use Rattle.cell_net.specs.Runs.{IsCellOf, IsMet, StandsIn};
-ghost use Rattle.plan_checker.specs.RunFaults.{IsMetAt};
+ghost use Rattle.plan_checker.specs.RunRules.{IsMetAt};
 ghost use Rattle.plan_checker.specs.Stations.{CountsAt, MarksCells, MarksStation};
 
 use cell_net::{CellId, DirCell, Instance, StationId, StopSpec, TrainRun, TrainSpec};
@@ -53,7 +55,6 @@ fn cells_inside(alloc: Global, inst: &Instance, station: StationId) -> Result<Ve
     requires { station.0 < length inst.now.stations }
     ensures { IfOk result (λ inside. MarksStation inst.now station inside.items) }
 {
-    let _parts = inst.parts();
     let mut inside = no_marks(alloc, inst.cell_count())?;
     mark(inside.as_mut_slice(), inst.station(station));
     Ok(inside)

@@ -1,73 +1,69 @@
-ghost use Rattle.std.specs.Prelude.{◌≡◌, ◌+◌, ◌<◌, ◌↔◌, ◌^◌, IsTrue, MatchOption, Some, length, slice_get};
-ghost use Rattle.cell_net.specs.Runs.{Enters};
-ghost use Rattle.plan_checker.specs.RunFaults.{FitsAt, GoesOn, IsMisfit, IsRunFault, RunsOn, fault_at_step};
+//! The first sweep of a run that doesn't stand where it should.
 
-use crate::runs::{RunFault, continues};
-use cell_net::{Instance, Sweep, TrainId, TrainRun, TrainSpec};
+ghost use Rattle.std.specs.Prelude.{◌≡◌, ◌+◌, ◌<◌, ◌↔◌, ◌^◌, IsTrue, MatchOption, Some, length, slice_get};
+ghost use Rattle.vss_lists.specs.Orders.{AreKept, IsFirstBroken};
+ghost use Rattle.cell_net.specs.Runs.{Continues};
+ghost use Rattle.plan_checker.specs.RunRules.{GoesOn, breach_of, rule_of_sweeps, rules_of_sweep};
+
+use crate::breach::Breach;
+use cell_net::{DirCell, Instance, Sweep, TrainId, TrainRun, TrainSpec};
 use layout_rules::{SweepFault, sweep_fault};
 
-/// Why a sweep doesn't fit at its place in a run.
-#[derive(Clone, Copy, Debug, PartialEq, Eq)]
-pub(crate) enum Misfit {
-    NoSweep(SweepFault),
-    Join,
-}
-
-/// The fault of the first sweep that doesn't fit.
-pub(crate) fn sweeps_fault(
+/// The breach of the first sweep that is none of the train or doesn't go on from the one before.
+pub(crate) fn first_bad_sweep(
     inst: &Instance,
     id: TrainId,
     train: &TrainSpec,
     run: &TrainRun,
-) -> Option<RunFault>
+) -> Option<Breach>
     requires train { slice_get inst.now.trains id.0 ≡ Some train.now }
-    requires enters { Enters train.now run.now }
     requires small { run.now.start + length run.now.sweeps < 2 ^ 32 }
-    ensures { MatchOption result (RunsOn inst.now train.now run.now) (IsRunFault inst.now train.now run.now) }
+    ensures { MatchOption result (rule_of_sweeps inst.now id train.now run.now).kept (rule_of_sweeps inst.now id train.now run.now).told }
 {
-    let start = run.start;
     let sweeps = run.sweeps.as_slice();
     for place in 0..sweeps.len() {
-        let step = start + place as u32;
-        match misfit_at(inst, id, train, sweeps, place, &sweeps[place]) {
-            None => {}
-            Some(misfit) => return Some(fault_at(misfit, step)),
+        if let Some(breach) = sweep_breach(inst, id, train, run, place, &sweeps[place]) {
+            return Some(breach);
         }
     }
     None
 }
 
-fn fault_at(misfit: Misfit, step: u32) -> RunFault
-    ensures { result ≡ fault_at_step misfit step }
-{
-    match misfit {
-        Misfit::NoSweep(fault) => RunFault::NoSweep { step, fault },
-        Misfit::Join => RunFault::Join { step },
-    }
-}
-
-/// Why the sweep at the place doesn't fit there, if it doesn't.
-fn misfit_at(
+/// The first breach of the sweep at the place of the run.
+fn sweep_breach(
     inst: &Instance,
     id: TrainId,
     train: &TrainSpec,
-    sweeps: &[Sweep],
+    run: &TrainRun,
     place: usize,
     sweep: &Sweep,
-) -> Option<Misfit>
-    requires { slice_get inst.now.trains id.0 ≡ Some train.now }
-    ensures { MatchOption result (FitsAt inst.now train.now sweeps.now place sweep.now)
-        (IsMisfit inst.now train.now sweeps.now place sweep.now) }
+) -> Option<Breach>
+    requires train { slice_get inst.now.trains id.0 ≡ Some train.now }
+    requires small { run.now.start + place < 2 ^ 32 }
+    ensures { MatchOption result (AreKept (rules_of_sweep inst.now id train.now run.now place sweep.now))
+        (IsFirstBroken (rules_of_sweep inst.now id train.now run.now place sweep.now)) }
 {
+    let start = run.start;
+    let step = start + place as u32;
     match sweep_fault(inst, id, sweep) {
-        Some(fault) => Some(Misfit::NoSweep(fault)),
+        Some(fault) => Some(breach_of(fault, id, step)),
         None => {
-            if goes_on(train, sweeps, place, sweep) {
+            if goes_on(train, run.sweeps.as_slice(), place, sweep) {
                 None
             } else {
-                Some(Misfit::Join)
+                Some(Breach::Join { train: id, step })
             }
         }
+    }
+}
+
+fn breach_of(fault: SweepFault, train: TrainId, step: u32) -> Breach
+    ensures { result ≡ breach_of fault train step }
+{
+    match fault {
+        SweepFault::Path => Breach::Path { train, step },
+        SweepFault::Length => Breach::Length { train, step },
+        SweepFault::Speed => Breach::Speed { train, step },
     }
 }
 
@@ -81,4 +77,39 @@ fn goes_on(train: &TrainSpec, sweeps: &[Sweep], place: usize, sweep: &Sweep) -> 
             Some(last) => continues(train, last.cells.as_slice(), sweep.cells.as_slice()),
         },
     }
+}
+
+/// Whether the next sweep begins with the last cells of this one, as many as the train is long.
+fn continues(train: &TrainSpec, cells: &[DirCell], next: &[DirCell]) -> bool
+    ensures { IsTrue result ↔ Continues train.now cells.now next.now }
+{
+    let length = train.length as usize;
+    let kept = &cells[cells.len().saturating_sub(length)..];
+    let begun = &next[..length.min(next.len())];
+    are_same(kept, begun)
+}
+
+fn are_same(one: &[DirCell], other: &[DirCell]) -> bool
+    ensures { IsTrue result ↔ (one.now ≡ other.now) }
+{
+    one.len() == other.len() && agree(one, other)
+}
+
+fn agree(one: &[DirCell], other: &[DirCell]) -> bool
+    requires { length one.now ≡ length other.now }
+    ensures { IsTrue result ↔ (one.now ≡ other.now) }
+{
+    for place in 0..one.len() {
+        if !is_same(one[place], other[place]) {
+            return false;
+        }
+    }
+    true
+}
+
+/// Whether the two are the same directed cell.
+pub(crate) fn is_same(one: DirCell, other: DirCell) -> bool
+    ensures { IsTrue result ↔ (one ≡ other) }
+{
+    one == other
 }

@@ -1,6 +1,11 @@
+mod AnyLemmas
+mod ClauseLemmas
+pub mod HintLaws
 pub mod LiteralLaws
-pub mod LiteralLemmas
+pub mod LiveLaws
 pub mod SearchLaws
-pub mod SoundnessLemmas
-pub mod StorageLemmas
-pub mod ClauseLemmas
+mod SoundnessLemmas
+pub mod StepLaws
+mod StorageLemmas
+pub mod ValueLaws
+pub mod ValuationLaws

@@ -1,16 +1,19 @@
 -- A formula that a log refutes is unsatisfiable: a valuation that satisfies the live clauses satisfies each accepted clause.
-use Rattle.std.proofs.Common.{◌≡◌, ℕ, zero, suc, ◌+◌, ◌-◌, ◌<◌, Bool, true, false, cond, not, ◌⊎◌, inl, inr, List, [], ◌∷◌, ◌++◌, length, map, refl, sym, subst, ◌∙◌, arith}
-use Rattle.std.specs.Prelude.{nat_eq, Any, All, Option, Some, None, find, slice_get, option_map}
+use Rattle.std.proofs.Common.{◌≡◌, ℕ, ◌+◌, Bool, true, false, cond, not, ◌⊎◌, inl, inr, List, [], ◌∷◌, ◌++◌, length, map, refl, ap, sym, subst, ◌∙◌}
+use Rattle.std.specs.Prelude.{nat_eq, Any, All, Option, Some, None, find, option_map}
 use Rattle.std.specs.List.{list_any}
 use Rattle.std.proofs.lemmas.List.Elements.{All-nil, All-cons, All-head, All-tail, All-push, All-filter, All-contains, Contains-push}
 use Rattle.sat_core.specs.declared.literal.Lit.{Lit}
 use Rattle.sat_core.specs.declared.literal.ClauseId.{ClauseId}
 use Rattle.sat_core.specs.declared.step_fault.StepFault.{StepFault}
 use Rattle.sat_core.specs.declared.step_fault.StepFault.TheVariants.{HintNotUnit}
-use Rattle.sat_core.specs.Clauses.{negated, IsOver, IsTrueIn, Satisfies, SatisfiesAll, IsUnsatisfiable}
+use Rattle.sat_core.specs.Clauses.{negated, IsTrueIn, Satisfies, SatisfiesAll, IsUnsatisfiable}
 use Rattle.sat_core.specs.Hints.{NumberedClause, clause_of, is_known, not_false, unit, fault, outcome_by, outcome_of, fault_after, hints_fault}
 use Rattle.sat_core.specs.Derivation.{DerivedStep, adds, drops, ClauseDatabase, numbered_from, database_of, IsAccepted, after, AreAccepted, AddsEmptyClause, EndsInEmptyClause, Refutes}
-use Rattle.sat_core.proofs.LiteralLemmas.{not_both, known_is_true, Any-none, Any-here, Any-there, Any-cases, Any-filter}
+use Rattle.sat_core.specs.Search.{Event, gives, derives, Search, search_of, after_event, IsNext, AreNext, log_of, units_of, RefutesWithUnits}
+use Rattle.sat_core.proofs.AnyLemmas.{Any-none, Any-here, Any-cases, Any-filter}
+use Rattle.sat_core.proofs.StepLaws.{vars_after, EndsInEmptyClause-tail}
+use Rattle.sat_core.proofs.ValuationLaws.{not_both, known_is_true, clause_cases}
 
 -- the valuation satisfies each live clause
 abbrev pub IsModel : List Bool → List NumberedClause → Type 0
@@ -60,33 +63,6 @@ no_model_of_conflict values live known (hint ∷ hints) model all none =
           no_model_of_conflict values live (known ++ step.0 ∷ []) hints model (All-push (IsTrueIn values) known step.0 all step.1) step.2
     ] refl none
 
-value_at : (values : List Bool) (place : ℕ) → place < length values → (b : Bool) × (slice_get values place ≡ Some b)
-value_at [] place within = absurd (omega arith)
-value_at (b ∷ values) zero within = (b, refl)
-value_at (b ∷ values) (suc place) within = value_at values place (omega arith)
-
--- a literal is true, or its negation is
-lit_cases : (values : List Bool) (lit : Lit) → IsOver (length values) lit → IsTrueIn values lit ⊎ IsTrueIn values (negated lit)
-lit_cases values lit over =
-    let at = value_at values (lit.var.0 - 1) (omega arith) in
-    let case : (b c : Bool) → slice_get values (lit.var.0 - 1) ≡ Some b → (slice_get values (lit.var.0 - 1) ≡ Some c) ⊎ (slice_get values (lit.var.0 - 1) ≡ Some (not c)) = λ b. elim b as (λ b. (c : Bool) → slice_get values (lit.var.0 - 1) ≡ Some b → (slice_get values (lit.var.0 - 1) ≡ Some c) ⊎ (slice_get values (lit.var.0 - 1) ≡ Some (not c))) [
-      | true ↦ λ c. elim c as (λ c. slice_get values (lit.var.0 - 1) ≡ Some true → (slice_get values (lit.var.0 - 1) ≡ Some c) ⊎ (slice_get values (lit.var.0 - 1) ≡ Some (not c))) [ true ↦ λ is. inl is | false ↦ λ is. inr is ]
-      | false ↦ λ c. elim c as (λ c. slice_get values (lit.var.0 - 1) ≡ Some false → (slice_get values (lit.var.0 - 1) ≡ Some c) ⊎ (slice_get values (lit.var.0 - 1) ≡ Some (not c))) [ true ↦ λ is. inr is | false ↦ λ is. inl is ]
-    ]
-    in case at.0 lit.positive at.1
-
--- a clause is satisfied, or all its literals are false
-clause_cases : (values : List Bool) (lits : List Lit) → All (IsOver (length values)) lits → Satisfies values lits ⊎ All (IsTrueIn values) (map negated lits)
-unfolding Satisfies
-clause_cases values [] over = inr (All-nil (IsTrueIn values))
-clause_cases values (lit ∷ lits) over = elim (lit_cases values lit (All-head (IsOver (length values)) lit lits over)) [
-  | inl holds ↦ inl (Any-here (IsTrueIn values) lit lits holds)
-  | inr fails ↦ elim (clause_cases values lits (All-tail (IsOver (length values)) lit lits over)) [
-    | inl satisfied ↦ inl (Any-there (IsTrueIn values) lit lits satisfied)
-    | inr others ↦ inr (All-cons (IsTrueIn values) (negated lit) (map negated lits) fails others)
-  ]
-]
-
 -- a model of the live clauses is a model of what an accepted step leaves
 model_after : (values : List Bool) (database : ClauseDatabase) (step : DerivedStep) → length values ≡ database.vars → IsModel values database.live → IsAccepted database step → IsModel values (after database step).live
 model_after values database (adds id lits hints) all model accepted =
@@ -97,16 +73,6 @@ model_after values database (adds id lits hints) all model accepted =
     ])
 model_after values database (drops ids) all model accepted =
     All-filter (λ clause. not (list_any (λ id. nat_eq clause.id.0 id.0) ids)) (λ clause. Satisfies values clause.lits) database.live model
-
-vars_after : (database : ClauseDatabase) (step : DerivedStep) → (after database step).vars ≡ database.vars
-vars_after database (adds id lits hints) = refl
-vars_after database (drops ids) = refl
-
-last_cons : (first second : DerivedStep) (steps : List DerivedStep) → EndsInEmptyClause (first ∷ second ∷ steps) → EndsInEmptyClause (second ∷ steps)
-last_cons first second steps ends =
-    let one : length (first ∷ second ∷ steps) - 1 ≡ suc (length steps) = omega arith in
-    let other : length (second ∷ steps) - 1 ≡ length steps = omega arith in
-    rw other (rw one at ends)
 
 -- an added empty clause has no model
 no_model_of_empty_clause : (values : List Bool) (database : ClauseDatabase) (step : DerivedStep) → AddsEmptyClause (Some step) → IsModel values (after database step).live → ⊥
@@ -121,7 +87,7 @@ no_model_of_refutation : (values : List Bool) (database : ClauseDatabase) (steps
 no_model_of_refutation values database [] all model accepted ends = ends
 no_model_of_refutation values database (step ∷ []) all model accepted ends = no_model_of_empty_clause values database step ends (model_after values database step all model accepted.0)
 no_model_of_refutation values database (step ∷ second ∷ steps) all model accepted ends =
-    no_model_of_refutation values (after database step) (second ∷ steps) (all ∙ sym (vars_after database step)) (model_after values database step all model accepted.0) accepted.1 (last_cons step second steps ends)
+    no_model_of_refutation values (after database step) (second ∷ steps) (all ∙ sym (vars_after database step)) (model_after values database step all model accepted.0) accepted.1 (EndsInEmptyClause-tail step second steps ends)
 
 model_of_formula : (values : List Bool) (first : ℕ) (clauses : List (List Lit)) → SatisfiesAll values clauses → IsModel values (numbered_from first clauses)
 model_of_formula values first [] satisfied = All-nil (λ clause. Satisfies values clause.lits)
@@ -134,3 +100,60 @@ pub refuted_is_unsatisfiable : (vars : ℕ) (clauses : List (List Lit)) (steps :
 unfolding IsUnsatisfiable
 refuted_is_unsatisfiable vars clauses steps refutes values all satisfied =
     no_model_of_refutation values (database_of vars clauses) steps all (model_of_formula values 1 clauses satisfied) refutes.accepted refutes.empty_last
+
+-- a true literal satisfies its clause of one literal, and is true where that is satisfied
+unit_satisfied : (values : List Bool) (lit : Lit) → IsTrueIn values lit → Satisfies values (lit ∷ [])
+unfolding Satisfies
+unit_satisfied values lit holds = Any-here (IsTrueIn values) lit [] holds
+
+unit_true : (values : List Bool) (lit : Lit) → Satisfies values (lit ∷ []) → IsTrueIn values lit
+unfolding Satisfies
+unit_true values lit satisfied = elim (Any-cases (IsTrueIn values) lit [] satisfied) [ inl here ↦ here | inr later ↦ absurd (Any-none (IsTrueIn values) later) ]
+
+-- an event that may come next leaves a model of what was live and is given a model of what is live then
+step_accepted : (s : Search) (step : DerivedStep) → IsNext s (derives step) → IsAccepted s.database step
+step_accepted s (adds id lits hints) learned = learned.accepted
+step_accepted s (drops ids) dropped = dropped.accepted
+
+search_vars : (s : Search) (step : DerivedStep) → (after_event s (derives step)).database ≡ after s.database step
+search_vars s (adds id lits hints) = refl
+search_vars s (drops ids) = refl
+
+-- where the log goes on, its end is that of the rest
+ends_later : (step : DerivedStep) (rest : List DerivedStep) → EndsInEmptyClause (step ∷ rest) → (rest ≡ []) ⊎ EndsInEmptyClause rest
+ends_later step [] ends = inl refl
+ends_later step (second ∷ rest) ends = inr (EndsInEmptyClause-tail step second rest ends)
+
+no_model_of_search : (values : List Bool) (s : Search) (events : List Event) → length values ≡ s.database.vars → IsModel values s.database.live → All (IsTrueIn values) (units_of events) → AreNext s events → EndsInEmptyClause (log_of events) → ⊥
+no_model_of_search values s [] all model units next ends = ends
+no_model_of_search values s (gives lit ∷ events) all model units next ends =
+    no_model_of_search values (after_event s (gives lit)) events all
+    (All-push (λ clause. Satisfies values clause.lits) s.database.live (record { id = record { 0 = s.database.last + 1 }; lits = lit ∷ [] }) model (unit_satisfied values lit (All-head (IsTrueIn values) lit (units_of events) units)))
+    (All-tail (IsTrueIn values) lit (units_of events) units) next.1 ends
+no_model_of_search values s (derives step ∷ events) all model units next ends =
+    let accepted : IsAccepted s.database step = step_accepted s step next.0 in
+    let model' : IsModel values (after s.database step).live = model_after values s.database step all model accepted in
+    elim (ends_later step (log_of events) ends) [
+      | inl last ↦ no_model_of_empty_clause values s.database step (subst (λ (rest : List DerivedStep). EndsInEmptyClause (step ∷ rest)) last ends) model'
+      | inr later ↦ no_model_of_search values (after_event s (derives step)) events
+          (all ∙ sym (ap (λ (d : ClauseDatabase). d.vars) (search_vars s step) ∙ vars_after s.database step))
+          (subst (λ (d : ClauseDatabase). IsModel values d.live) (sym (search_vars s step)) model') units next.1 later
+    ]
+
+units_true : (values : List Bool) (units : List Lit) → SatisfiesAll values (map (λ lit. lit ∷ []) units) → All (IsTrueIn values) units
+units_true values [] satisfied = All-nil (IsTrueIn values)
+units_true values (lit ∷ units) satisfied = All-cons (IsTrueIn values) lit units
+    (unit_true values lit (All-head (Satisfies values) (lit ∷ []) (map (λ lit. lit ∷ []) units) satisfied))
+    (units_true values units (All-tail (Satisfies values) (lit ∷ []) (map (λ lit. lit ∷ []) units) satisfied))
+
+both_parts : {X : Type 0} (P : X → Type 0) (xs ys : List X) → All P (xs ++ ys) → All P xs × All P ys
+both_parts P [] ys all = (All-nil P, all)
+both_parts P (x ∷ xs) ys all =
+    let rest = both_parts P xs ys (All-tail P x (xs ++ ys) all) in
+    (All-cons P x xs (All-head P x (xs ++ ys) all) rest.0, rest.1)
+
+pub refuted_with_units : (vars : ℕ) (formula : List (List Lit)) (events : List Event) → RefutesWithUnits vars formula events → IsUnsatisfiable vars (formula ++ map (λ lit. lit ∷ []) (units_of events))
+unfolding IsUnsatisfiable
+refuted_with_units vars formula events refutes values all satisfied =
+    let parts = both_parts (Satisfies values) formula (map (λ lit. lit ∷ []) (units_of events)) satisfied in
+    no_model_of_search values (search_of vars formula) events all (model_of_formula values 1 formula parts.0) (units_true values (units_of events) parts.1) refutes.search refutes.empty_last

@@ -1,4 +1,5 @@
-// The test of what makes literals a clause.
+//! The test of what makes literals a clause.
+
 ghost use Rattle.std.specs.Prelude.{◌≡◌, ◌≢◌, ◌↔◌, ◌≤◌, IsTrue, All};
 ghost use Rattle.sat_core.specs.Clauses.{IsOver, IsClause};
 
@@ -17,7 +18,7 @@ pub fn is_clause(vars: u32, lits: &[Lit]) -> bool
     true
 }
 
-// Whether the literal may stand behind these in a clause.
+/// Whether the literal may stand behind these in a clause.
 fn goes_with(vars: u32, lits: &[Lit], lit: Lit) -> bool
     ensures { IsTrue result ↔ (IsOver vars lit × All (λ other. other.var.0 ≢ lit.var.0) lits.now) }
 {

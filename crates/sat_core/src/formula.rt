@@ -1,3 +1,5 @@
+//! Formulas: lists of clauses, stored flat.
+
 ghost use Rattle.std.specs.Prelude.{◌≡◌, ◌+◌, ◌-◌, ◌^◌, ◌<◌, ◌≤◌, ◌++◌, ◌∷◌, [], length, IsOk, OnOk, OnErr, IsTrue, ◌↔◌, slice_get, All};
 ghost use Rattle.sat_core.specs.Clauses.{IsClause, SatisfiesAll};
 
@@ -77,7 +79,7 @@ impl Formula {
     }
 
     /// Appends a clause. Linear in its literals, which are copied once. After want of memory the formula is as
-    /// it was.
+    /// it was, and has the room that it had.
     pub fn push(&mut self, lits: &[Lit]) -> Result<(), AllocError>
         requires clause { IsClause self.old.vars lits.now }
         requires numbered { length self.old.clauses < 2 ^ 32 - 1 }
@@ -87,6 +89,7 @@ impl Formula {
         ensures within_room { 1 ≤ self.old.spare_clauses → length lits.now ≤ self.old.spare_lits → IsOk result }
         ensures room_for_clauses { self.old.spare_clauses ≤ self.new.spare_clauses + 1 }
         ensures room_for_lits { self.old.spare_lits ≤ self.new.spare_lits + length lits.now }
+        ensures room_after_err { OnErr result ((self.old.spare_clauses ≤ self.new.spare_clauses) × (self.old.spare_lits ≤ self.new.spare_lits)) }
     {
         self.ends.reserve(1)?;
         self.lits.extend_from_slice(lits)?;
@@ -104,6 +107,7 @@ impl Formula {
         ensures within_room { 1 ≤ self.old.spare_clauses → length lits.entry ≤ self.old.spare_lits → IsOk result }
         ensures room_for_clauses { self.old.spare_clauses ≤ self.new.spare_clauses + 1 }
         ensures room_for_lits { self.old.spare_lits ≤ self.new.spare_lits + length lits.entry }
+        ensures room_after_err { OnErr result ((self.old.spare_clauses ≤ self.new.spare_clauses) × (self.old.spare_lits ≤ self.new.spare_lits)) }
     {
         self.push(&lits)
     }

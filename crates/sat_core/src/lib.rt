@@ -13,7 +13,7 @@ mod valuation;
 pub use clause::is_clause;
 pub use formula::Formula;
 pub use literal::{ClauseId, Lit, Var};
-pub use soundness::refutations_are_sound;
+pub use soundness::{refutations_are_sound, refuted_searches_are_sound};
 pub use step_fault::StepFault;
 pub use valuation::Valuation;
 

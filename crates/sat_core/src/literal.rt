@@ -1,3 +1,5 @@
+//! Variables, literals and the numbers of clauses.
+
 ghost use Rattle.std.specs.Prelude.{◌≡◌};
 ghost use Rattle.sat_core.specs.Clauses.{negated as negation};
 
@@ -9,6 +11,7 @@ pub struct Var(pub u32);
 #[derive(Clone, Copy, Debug, Default, PartialEq, Eq, PartialOrd, Ord, Hash)]
 pub struct Lit {
     pub var: Var,
+    /// Whether it is the variable itself.
     pub positive: bool,
 }
 

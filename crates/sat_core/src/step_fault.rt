@@ -1,3 +1,5 @@
+//! The faults of derived steps.
+
 /// Why a derived step isn't accepted: the first test that fails, in this order. `Memory` is no fault of the step.
 #[derive(Clone, Copy, Debug, PartialEq, Eq)]
 pub enum StepFault {
@@ -15,5 +17,6 @@ pub enum StepFault {
     NoConflict,
     /// Hints follow one that had only false literals.
     HintsAfterConflict,
+    /// There was no memory to test the step.
     Memory,
 }

@@ -1,3 +1,5 @@
+//! What no clause says of formulas: that memory suffices, with answers compared.
+
 use crate::{ClauseId, Formula, Lit, Valuation, Var, is_clause};
 use std::alloc::{AllocError, Global};
 use std::process::Abort;
@@ -121,5 +123,45 @@ fn tells_satisfying_valuations(rt: HostRuntime) -> Result<(), Fail> {
     };
     assert!(rt; nothing.values.len() == formula.vars() as usize);
     assert_eq!(rt; formula.satisfied_by(&nothing), false);
+    Ok(())
+}
+
+// A clause of all variables, and for each variable but the first one clause that makes it false.
+#[test]
+fn reads_back_a_long_clause_and_many(rt: HostRuntime) -> Result<(), Fail> {
+    let long: Vec<Lit> = (1..1001).map(|var| lit(var, true)).collect(rt.alloc())?;
+    let mut formula = Formula::new(rt.alloc(), 1000);
+    push(&rt, &mut formula, long.as_slice())?;
+    for var in 2..1001 {
+        push(&rt, &mut formula, &[lit(var, false)])?;
+    }
+    assert_eq!(rt; formula.len(), 1000);
+    assert!(rt; 1000 <= formula.len());
+    assert_eq!(rt; formula.clause(ClauseId(1)), long.as_slice());
+    let last = [lit(1000, false)];
+    assert_eq!(rt; formula.clause(ClauseId(1000)), last.as_slice());
+    // the first variable alone is true, or none is
+    for first in [true, false] {
+        let values: Vec<bool> = (1..1001).map(|v| v == 1 && first).collect(rt.alloc())?;
+        let valuation = Valuation {
+            values: Items::from_vec(values),
+        };
+        assert!(rt; valuation.values.len() == formula.vars() as usize);
+        assert_eq!(rt; formula.satisfied_by(&valuation), first);
+    }
+    Ok(())
+}
+
+fn lit(var: u32, positive: bool) -> Lit {
+    Lit {
+        var: Var(var),
+        positive,
+    }
+}
+
+fn push(rt: &impl Abort, formula: &mut Formula, lits: &[Lit]) -> Result<(), Fail> {
+    assert!(rt; is_clause(formula.vars(), lits));
+    assert!(rt; formula.len() < 10_000);
+    formula.push(lits)?;
     Ok(())
 }

@@ -1,3 +1,5 @@
+//! Valuations of a formula's variables.
+
 use vss_lists::Items;
 
 /// One truth value for each variable: variable `v` has the value at place `v - 1`.

@@ -2,8 +2,18 @@
 //! keeps.
 #![tactic(auto)]
 
+mod build;
+mod ends;
+mod groups;
+mod grow;
 mod ids;
 mod moves;
+mod order;
+mod refusal;
+mod successors;
+mod table;
 
 pub use ids::SweepId;
 pub use moves::Moves;
+pub use refusal::TableRefusal;
+pub use table::SweepTable;

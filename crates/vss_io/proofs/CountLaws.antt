@@ -1,5 +1,5 @@
 -- How often a name stands in a list that grows.
-use Rattle.std.proofs.Common.{◌≡◌, ◌≢◌, ℕ, ◌+◌, List, [], ◌∷◌, ◌++◌, refl, sym, ap, ◌∙◌, zero-add, add-zero}
+use Rattle.std.proofs.Common.{◌≡◌, ◌≢◌, ◌≤◌, arith, ℕ, ◌+◌, List, [], ◌∷◌, ◌++◌, refl, sym, ap, ◌∙◌, zero-add, add-zero}
 use Rattle.std.specs.Prelude.{cond}
 use Rattle.std.specs.Str.{bytes_eq}
 use Rattle.std.proofs.lemmas.Bool.{false_from_ne_true}
@@ -23,5 +23,9 @@ count_of-other names last name differ =
     count_of-append names last name
     ∙ ap (λ same. count_of names name + cond same 1 0) (false_from_ne_true (bytes_eq last name) (λ same. differ (sym ((bytes_eq-Decides last name).0 same))))
     ∙ add-zero (count_of names name)
+
+-- no name counts less
+pub count_of-never_falls : (names : List (List ℕ)) (last name : List ℕ) → count_of names name ≤ count_of (names ++ last ∷ []) name
+count_of-never_falls names last name = omega (arith, count_of-append names last name)
 
 pub ruleset count_laws = (count_of-same, count_of-other)

@@ -1,8 +1,10 @@
+-- The definitions of devices and of what is read and written.
 pub mod Faults
+pub mod Shown
+pub mod Reading
 pub mod Written
 pub mod Line
-pub mod Shelf
 pub mod Calls
 pub mod MemSink
-pub mod Files
+pub mod MemFiles
 pub mod MemShelf

@@ -1,9 +1,11 @@
+//! The count of the calls of a device in memory.
+
 ghost use Rattle.std.specs.Prelude.{◌≡◌, ◌+◌, ◌-◌, ◌^◌, min};
 ghost use Rattle.vss_io.specs.Calls.{next_fails};
 
 use std::marker::Model;
 
-// The calls of a device in memory, counted from 0, some of which are to fail.
+/// The calls of a device in memory, counted from 0, some of which are to fail.
 #[derive(Drop)]
 pub struct Calls {
     failing: Vec<u32>,
@@ -19,14 +21,14 @@ impl Model for Calls {
 }
 
 impl Calls {
-    // No call yet; those whose numbers are listed will fail.
+    /// No call yet; those whose numbers are listed will fail.
     pub fn new(failing: Vec<u32>) -> Calls
         ensures { result ≡ record { failing = failing.items; made = 0 } }
     {
         Calls { failing, made: 0 }
     }
 
-    // Counts the next call, and tells whether it is to fail. Linear in the list.
+    /// Counts the next call, and tells whether it is to fail. Linear in the list.
     pub fn next_fails(&mut self) -> bool
         ensures listed { result ≡ next_fails self.old }
         ensures same { self.new.failing ≡ self.old.failing }

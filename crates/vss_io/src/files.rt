@@ -1,12 +1,14 @@
+//! Files in memory: looked for by name, and copied.
+
 ghost use Rattle.std.specs.Prelude.{◌≡◌, ◌≤◌, ◌<◌, ◌↔◌, length, IfOk, IsErrOf, find, string_bytes, vec_len};
 ghost use Rattle.std.specs.Option.{option_copied};
 ghost use Rattle.std.specs.Str.{bytes_eq};
-ghost use Rattle.vss_io.specs.Files.{named_bytes, file_named};
+ghost use Rattle.vss_io.specs.MemFiles.{named_bytes, file_named};
 
 use crate::reading::ShelfFault;
 use std::alloc::Global;
 
-// The bytes of the first file of that name. Linear in the files.
+/// The bytes of the first file of that name. Linear in the files.
 pub fn bytes_of<'a>(files: &'a [(String, Vec<u8>)], name: &str) -> Option<&'a [u8]>
     ensures { option_copied result ≡ file_named (named_bytes files.now) name.now }
 {
@@ -19,7 +21,7 @@ fn find_file<'a>(files: &'a [(String, Vec<u8>)], name: &str) -> Option<&'a (Stri
     files.iter().find(|file| file.0.as_str() == name)
 }
 
-// A copy of the bytes, if they are at most `max`.
+/// A copy of the bytes, if they are at most `max`.
 pub fn copy_within(alloc: Global, bytes: &[u8], max: u64) -> Result<Vec<u8>, ShelfFault>
     ensures copy { IfOk result (λ copy. copy.items ≡ bytes.now) }
     ensures within { IfOk result (λ copy. vec_len copy ≤ max) }

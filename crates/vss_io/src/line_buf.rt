@@ -1,6 +1,7 @@
+//! Lines that are printed piece by piece, without memory.
+
 ghost use Rattle.std.specs.Prelude.{◌≡◌, ℕ, ◌+◌, ◌-◌, ◌*◌, ◌%◌, ◌<◌, ◌≤◌, [], ◌∷◌, ◌++◌, length, take, slice_set, OnOk, OnErr};
-ghost use Rattle.vss_io.specs.Faults.{Rose};
-ghost use Rattle.vss_io.specs.Written.{followed_by, PutsFront, PutsAllBut};
+ghost use Rattle.vss_io.specs.Written.{Prints, PrintsAllBut};
 ghost use Rattle.vss_io.specs.Line.{line, joined};
 
 use crate::writing::{Sink, SinkFault};
@@ -40,12 +41,9 @@ impl LineBuf {
 
     /// Appends the bytes, and puts 4,096 bytes as one piece as soon as so many are kept. Linear in the bytes.
     pub fn add<K: Sink>(&mut self, bytes: &[u8], out: &mut K) -> Result<(), SinkFault>
-        ensures front { PutsFront (K.written out.old) (K.written out.new) (self.old ++ bytes.now) }
-        ensures added { OnOk result (PutsAllBut (K.written out.old) (K.written out.new) self.new (self.old ++ bytes.now)) }
+        ensures printed { PrintsAllBut (K.shown out.old) (K.shown out.new) self.new (self.old ++ bytes.now) result }
         ensures dropped { OnErr result (self.new ≡ []) }
         ensures kept { OnOk result (length self.new ≡ (length self.old + length bytes.now) % 4096) }
-        ensures never_falls { K.faults out.old ≤ K.faults out.new }
-        ensures cause { OnErr result (Rose (K.faults out.old) (K.faults out.new)) }
     {
         let mut rest = bytes;
         while rest.len() >= self.room() {
@@ -59,11 +57,8 @@ impl LineBuf {
 
     /// Ends the line by a line feed, puts what is left of it, and keeps nothing.
     pub fn finish<K: Sink>(&mut self, out: &mut K) -> Result<(), SinkFault>
-        ensures front { PutsFront (K.written out.old) (K.written out.new) (line self.old) }
-        ensures whole { OnOk result (K.written out.new ≡ followed_by (K.written out.old) (line self.old)) }
+        ensures printed { Prints (K.shown out.old) (K.shown out.new) (line self.old) result }
         ensures kept { self.new ≡ [] }
-        ensures never_falls { K.faults out.old ≤ K.faults out.new }
-        ensures cause { OnErr result (Rose (K.faults out.old) (K.faults out.new)) }
     {
         self.add(b"\n", out)?;
         if self.used == 0 {
@@ -74,7 +69,7 @@ impl LineBuf {
         out.put(&self.bytes[..used])
     }
 
-    // How many bytes are missing from a whole piece.
+    /// How many bytes are missing from a whole piece.
     fn room(&self) -> usize
         ensures whole { result + length self.now ≡ PIECE }
         ensures some { 0 < result }
@@ -82,21 +77,18 @@ impl LineBuf {
         PIECE - self.used
     }
 
-    // Puts a piece that ends with these bytes. Nothing is kept then, even if the put fails.
+    /// Puts a piece that ends with these bytes. Nothing is kept then, even if the put fails.
     fn put_with<K: Sink>(&mut self, front: &[u8], out: &mut K) -> Result<(), SinkFault>
         requires { length self.old + length front.now ≡ PIECE }
-        ensures front { PutsFront (K.written out.old) (K.written out.new) (self.old ++ front.now) }
-        ensures whole { OnOk result (K.written out.new ≡ followed_by (K.written out.old) (self.old ++ front.now)) }
+        ensures printed { Prints (K.shown out.old) (K.shown out.new) (self.old ++ front.now) result }
         ensures kept { self.new ≡ [] }
-        ensures never_falls { K.faults out.old ≤ K.faults out.new }
-        ensures cause { OnErr result (Rose (K.faults out.old) (K.faults out.new)) }
     {
         self.bytes[self.used..].copy_from_slice(front);
         self.used = 0;
         out.put(&self.bytes)
     }
 
-    // Keeps these bytes too, which do not fill a piece.
+    /// Keeps these bytes too, which do not fill a piece.
     fn keep(&mut self, bytes: &[u8])
         requires { length self.old + length bytes.now < PIECE }
         ensures { self.new ≡ self.old ++ bytes.now }
@@ -108,10 +100,7 @@ impl LineBuf {
 
 /// Prints one line: the pieces one after another, and a line feed.
 pub fn print_line<K: Sink>(pieces: &[&[u8]], out: &mut K) -> Result<(), SinkFault>
-    ensures front { PutsFront (K.written out.old) (K.written out.new) (line (joined pieces.now)) }
-    ensures whole { OnOk result (K.written out.new ≡ followed_by (K.written out.old) (line (joined pieces.now))) }
-    ensures never_falls { K.faults out.old ≤ K.faults out.new }
-    ensures cause { OnErr result (Rose (K.faults out.old) (K.faults out.new)) }
+    ensures { Prints (K.shown out.old) (K.shown out.new) (line (joined pieces.now)) result }
 {
     let mut text = LineBuf::new();
     for piece in pieces {

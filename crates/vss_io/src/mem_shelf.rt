@@ -1,9 +1,10 @@
-ghost use Rattle.std.specs.Prelude.{◌≡◌, ◌≢◌, ℕ, ◌⊎◌, ◌+◌, ◌-◌, ◌^◌, ◌≤◌, ◌↔◌, List, [], ◌∷◌, ◌++◌, Some, Err, min, IfOk, IsTrue, IsNone, IsErrOf, OnOk, OnErr, vec_len};
+//! A shelf of files in memory, of which some readings fail.
+
+ghost use Rattle.std.specs.Prelude.{◌≡◌, ◌≢◌, ◌⊎◌, ◌+◌, ◌-◌, ◌^◌, [], ◌∷◌, ◌++◌, Err, min, IsTrue, IsNone, IsErrOf, OnOk, OnErr};
 ghost use Rattle.vss_io.specs.Calls.{next_fails};
-ghost use Rattle.vss_io.specs.Faults.{Rose};
-ghost use Rattle.vss_io.specs.Files.{named_bytes, file_named};
-ghost use Rattle.vss_io.specs.MemShelf.{count_of};
-ghost use Rattle.vss_io.specs.Shelf.{IsLongerThan};
+ghost use Rattle.vss_io.specs.MemFiles.{named_bytes, file_named};
+ghost use Rattle.vss_io.specs.MemShelf.{files_of};
+ghost use Rattle.vss_io.specs.Reading.{Reads, Keeps};
 
 use crate::calls::Calls;
 use crate::files::{bytes_of, copy_within};
@@ -22,7 +23,7 @@ pub struct MemShelf {
 
 impl Model for MemShelf {
     ghost use Rattle.std.specs.Prelude.{map, string_bytes};
-    ghost use Rattle.vss_io.specs.Files.{named_bytes};
+    ghost use Rattle.vss_io.specs.MemFiles.{named_bytes};
     ghost use Rattle.vss_io.specs.MemShelf.{MemReading};
 
     ghost Value = { MemReading };
@@ -46,7 +47,7 @@ impl MemShelf {
         }
     }
 
-    // Notes that a reading of that name failed.
+    /// Notes that a reading of that name failed.
     fn note(&mut self, name: &str) -> Result<(), AllocError>
         ensures ok { OnOk result (self.new ≡ record self.old { failed = self.old.failed ++ name.now ∷ [] }) }
         ensures err { OnErr result (self.new ≡ self.old) }
@@ -58,15 +59,9 @@ impl MemShelf {
 }
 
 impl Shelf for MemShelf {
-    ghost use Rattle.std.specs.Prelude.{true};
-    ghost use Rattle.vss_io.specs.Files.{file_named};
-    ghost use Rattle.vss_io.specs.MemShelf.{count_of};
+    ghost use Rattle.vss_io.specs.MemShelf.{files_of};
 
-    ghost tells = { λ _. true };
-
-    ghost file = { λ s name. file_named s.files name };
-
-    ghost faults = { λ s name. count_of s.failed name };
+    ghost shown = { files_of };
 
     #[tactic(auto, using(crate::proofs::CountLaws::count_laws))]
     /// Fails at the listed readings and where there is no file of that name. Where the name of a reading that fails
@@ -79,13 +74,8 @@ impl Shelf for MemShelf {
         ensures counted { self.new.reads ≡ record self.old.reads { made = min (self.old.reads.made + 1) (2 ^ 64 - 1) } }
 
         // What each shelf promises.
-        ensures within { IfOk result (λ bytes. vec_len bytes ≤ max) }
-        ensures told { IfOk result (λ bytes. file_named self.old.files name.now ≡ Some bytes.items) }
-        ensures too_long { IsErrOf result ShelfFault.TooLong ↔ (IsLongerThan max (file_named self.old.files name.now) × (result ≢ Err ShelfFault.Failed) × (result ≢ Err ShelfFault.Memory)) }
-        ensures failed { IsErrOf result ShelfFault.Failed → Rose (count_of self.old.failed name.now) (count_of self.new.failed name.now) }
-        ensures same_files { self.new.files ≡ self.old.files }
-        ensures never_falls { (other : List ℕ) → count_of self.old.failed other ≤ count_of self.new.failed other }
-        ensures others { (other : List ℕ) → other ≢ name.now → count_of self.new.failed other ≡ count_of self.old.failed other }
+        ensures answered { Reads (files_of self.old) (files_of self.new) name.now max result }
+        ensures keeps { Keeps (files_of self.old) (files_of self.new) (name.now ∷ []) }
     {
         let failing = self.reads.next_fails();
         match bytes_of(self.files.as_slice(), name) {

@@ -1,8 +1,9 @@
+//! A sink in memory.
+
 ghost use Rattle.std.specs.Prelude.{◌≡◌, ◌⊎◌, ◌+◌, ◌-◌, ◌^◌, ◌<◌, ◌≤◌, ◌↔◌, [], ◌++◌, length, take, min, IfOk, OnOk, OnErr, IsErr, IsTrue};
 ghost use Rattle.vss_io.specs.Calls.{next_fails};
-ghost use Rattle.vss_io.specs.Faults.{Rose};
-ghost use Rattle.vss_io.specs.MemSink.{room, taken};
-ghost use Rattle.vss_io.specs.Written.{followed_by, PutsFront};
+ghost use Rattle.vss_io.specs.MemSink.{room, taken, output_of};
+ghost use Rattle.vss_io.specs.Written.{Prints};
 
 use crate::calls::Calls;
 use crate::writing::{Sink, SinkFault};
@@ -54,11 +55,9 @@ impl MemSink {
 }
 
 impl Sink for MemSink {
-    ghost use Rattle.std.specs.Prelude.{Some};
+    ghost use Rattle.vss_io.specs.MemSink.{output_of};
 
-    ghost written = { λ s. Some s.written };
-
-    ghost faults = { λ s. s.faults };
+    ghost shown = { output_of };
 
     /// Takes the whole piece, or fails: a listed put takes the first half of the piece, rounded down, and a put past
     /// the capacity what fits.
@@ -71,10 +70,7 @@ impl Sink for MemSink {
         ensures same_capacity { self.new.capacity ≡ self.old.capacity }
 
         // What each sink promises.
-        ensures front { PutsFront (Some self.old.written) (Some self.new.written) piece.now }
-        ensures whole { OnOk result (Some self.new.written ≡ followed_by (Some self.old.written) piece.now) }
-        ensures never_falls { self.old.faults ≤ self.new.faults }
-        ensures cause { OnErr result (Rose self.old.faults self.new.faults) }
+        ensures prints { Prints (output_of self.old) (output_of self.new) piece.now result }
     {
         let failing = self.puts.next_fails();
         let wanted = if failing {

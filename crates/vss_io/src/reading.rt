@@ -1,6 +1,8 @@
-ghost use Rattle.std.specs.Prelude.{◌≡◌, ◌≢◌, ℕ, ◌≤◌, ◌↔◌, List, Bool, Option, Some, IsTrue, IfOk, IsErrOf, vec_len};
-ghost use Rattle.vss_io.specs.Faults.{Rose};
-ghost use Rattle.vss_io.specs.Shelf.{IsLongerThan};
+//! A place to read files from, and why a file is not read.
+
+ghost use Rattle.std.specs.Prelude.{[], ◌∷◌};
+ghost use Rattle.vss_io.specs.Shown.{Files};
+ghost use Rattle.vss_io.specs.Reading.{Reads, Keeps};
 
 use thiserror::Error;
 
@@ -20,24 +22,11 @@ pub enum ShelfFault {
 
 /// Files that are read whole, by name.
 pub trait Shelf {
-    // whether the shelf tells what its files hold
-    ghost tells: { Self → Bool };
-
-    // the bytes of the file of that name, if there is one
-    ghost file: { Self → List ℕ → Option (List ℕ) };
-
-    // how many readings of that name failed
-    ghost faults: { Self → List ℕ → ℕ };
+    // what contracts see of the shelf
+    ghost shown: { Self → Files };
 
     /// All bytes of the file, if they are at most `max`.
     fn read_file(&mut self, name: &str, max: u64) -> Result<Vec<u8>, ShelfFault>
-        ensures within { IfOk result (λ bytes. vec_len bytes ≤ max) }
-        ensures told { IsTrue (tells self.old) → IfOk result (λ bytes. file self.old name.now ≡ Some bytes.items) }
-        ensures too_long { IsTrue (tells self.old) → (IsErrOf result ShelfFault.TooLong ↔ (IsLongerThan max (file self.old name.now) × (result ≢ Err ShelfFault.Failed) × (result ≢ Err ShelfFault.Memory))) }
-        ensures failed { IsErrOf result ShelfFault.Failed → Rose (faults self.old name.now) (faults self.new name.now) }
-
-        ensures same_tells { tells self.new ≡ tells self.old }
-        ensures same_files { (other : List ℕ) → file self.new other ≡ file self.old other }
-        ensures never_falls { (other : List ℕ) → faults self.old other ≤ faults self.new other }
-        ensures others { IsTrue (tells self.old) → (other : List ℕ) → other ≢ name.now → faults self.new other ≡ faults self.old other };
+        ensures answered { Reads (shown self.old) (shown self.new) name.now max result }
+        ensures keeps { Keeps (shown self.old) (shown self.new) (name.now ∷ []) };
 }

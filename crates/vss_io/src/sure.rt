@@ -1,5 +1,7 @@
+//! A shelf and a sink that never fail.
+
 ghost use Rattle.std.specs.Prelude.{◌≡◌};
-ghost use Rattle.vss_io.specs.Files.{named_bytes};
+ghost use Rattle.vss_io.specs.MemFiles.{named_bytes};
 
 use crate::files::{bytes_of, copy_within};
 use crate::reading::{Shelf, ShelfFault};
@@ -16,7 +18,7 @@ pub struct SureShelf {
 
 impl Model for SureShelf {
     ghost use Rattle.std.specs.Prelude.{List, ℕ};
-    ghost use Rattle.vss_io.specs.Files.{named_bytes};
+    ghost use Rattle.vss_io.specs.MemFiles.{named_bytes};
 
     ghost Value = { List (List ℕ × List ℕ) };
 
@@ -33,14 +35,9 @@ impl SureShelf {
 }
 
 impl Shelf for SureShelf {
-    ghost use Rattle.std.specs.Prelude.{[], Some, true, unwrap_or};
-    ghost use Rattle.vss_io.specs.Files.{file_named};
+    ghost use Rattle.vss_io.specs.MemFiles.{whole_files};
 
-    ghost tells = { λ _. true };
-
-    ghost file = { λ s name. Some (unwrap_or (file_named s name) []) };
-
-    ghost faults = { λ _ _. 0 };
+    ghost shown = { whole_files };
 
     /// Linear in the files and the bytes.
     fn read_file(&mut self, name: &str, max: u64) -> Result<Vec<u8>, ShelfFault> {
@@ -54,6 +51,7 @@ impl Shelf for SureShelf {
 pub struct SureSink;
 
 impl SureSink {
+    /// A sink to which nothing is written yet.
     pub fn new() -> SureSink {
         SureSink
     }
@@ -62,9 +60,7 @@ impl SureSink {
 impl Sink for SureSink {
     ghost use Rattle.std.specs.Prelude.{None};
 
-    ghost written = { λ _. None };
-
-    ghost faults = { λ _. 0 };
+    ghost shown = { λ _. record { written = None; faults = 0 } };
 
     fn put(&mut self, _piece: &[u8]) -> Result<(), SinkFault> {
         Ok(())

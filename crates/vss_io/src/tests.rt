@@ -1,8 +1,10 @@
+//! Tests of what no clause says of the devices: how lines are cut into pieces, and that memory suffices.
+
 use super::*;
 use std::alloc::{AllocError, Global};
 use std::test::Fail;
 
-// A text whose neighbouring bytes differ.
+/// A text whose neighbouring bytes differ.
 fn text_of(alloc: Global, length: usize) -> Result<Vec<u8>, AllocError> {
     let mut text = Vec::new(alloc);
     for at in 0..length {
@@ -18,26 +20,27 @@ fn print_by_parts(text: &[u8], line: &mut LineBuf, out: &mut MemSink) -> Result<
     line.finish(out)
 }
 
+// The length of a line, the put that fails, and how many bytes are written; no put fails in the last row of each length.
+static LINES: [(usize, u32, usize); 12] = [
+    (4095, 0, 2048),
+    (4095, 1, 4096),
+    (4096, 0, 2048),
+    (4096, 1, 4096),
+    (4096, 2, 4097),
+    (4097, 0, 2048),
+    (4097, 1, 4097),
+    (4097, 2, 4098),
+    (9000, 0, 2048),
+    (9000, 1, 6144),
+    (9000, 2, 8596),
+    (9000, 3, 9001),
+];
+
 #[test]
 fn a_long_line_is_put_in_pieces_and_is_lost_after_a_failed_put(
     rt: HostRuntime,
 ) -> Result<(), Fail> {
-    // The length of the line, the put that fails, and how many bytes are written; no put fails in the last row of each length.
-    let rows = [
-        (4095, 0, 2048),
-        (4095, 1, 4096),
-        (4096, 0, 2048),
-        (4096, 1, 4096),
-        (4096, 2, 4097),
-        (4097, 0, 2048),
-        (4097, 1, 4097),
-        (4097, 2, 4098),
-        (9000, 0, 2048),
-        (9000, 1, 6144),
-        (9000, 2, 8596),
-        (9000, 3, 9001),
-    ];
-    for (length, failing, size) in rows {
+    for &(length, failing, size) in &LINES {
         let mut text = text_of(rt.alloc(), length)?;
         let mut out = MemSink::new(rt.alloc(), 10_000, vec![in rt.alloc(); failing]?)?;
         let mut line = LineBuf::new();
@@ -81,13 +84,15 @@ fn a_shelf_fails_at_listed_readings_and_missing_names(rt: HostRuntime) -> Result
     let mut shelf = MemShelf::new(
         rt.alloc(),
         vec![in rt.alloc(); (name, bytes)]?,
-        vec![in rt.alloc(); 1]?,
+        vec![in rt.alloc(); 1, 4]?,
     );
     let abc = Vec::from_slice(rt.alloc(), b"abc")?;
     assert_eq!(rt; shelf.read_file("net", 3), Ok(abc));
     assert_eq!(rt; shelf.read_file("net", 3), Err(ShelfFault::Failed));
     assert_eq!(rt; shelf.read_file("ne", 3), Err(ShelfFault::Failed));
     assert_eq!(rt; shelf.read_file("net", 2), Err(ShelfFault::TooLong));
+    assert_eq!(rt; shelf.read_file("", 2), Err(ShelfFault::Failed));
+    assert_eq!(rt; shelf.read_file("", 2), Err(ShelfFault::Failed));
     Ok(())
 }
 

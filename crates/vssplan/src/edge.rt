@@ -18,6 +18,7 @@ pub struct FileShelf<'a, R> {
 }
 
 impl<'a, R: Files> FileShelf<'a, R> {
+    /// The files, of which none was read yet.
     pub fn new(rt: &'a R, alloc: Global) -> FileShelf<'a, R> {
         FileShelf {
             rt,
@@ -26,7 +27,7 @@ impl<'a, R: Files> FileShelf<'a, R> {
         }
     }
 
-    // One byte more than `max` is read, so that a longer file shows.
+    /// One byte more than `max` is read, so that a longer file shows.
     fn read(&self, name: &str, max: u64) -> io::Result<Vec<u8>> {
         let mut bytes = Vec::new(self.alloc);
         let file = File::open(self.rt, name)?;
@@ -36,11 +37,7 @@ impl<'a, R: Files> FileShelf<'a, R> {
 }
 
 impl<R: Files> Shelf for FileShelf<'_, R> {
-    ghost tells = { λ _. false };
-
-    ghost file = { λ _ _. None };
-
-    ghost faults = { λ s _. s.faults };
+    ghost shown = { λ s. record { tells = false; file = λ _. None; faults = λ _. s.faults } };
 
     fn read_file(&mut self, name: &str, max: u64) -> Result<Vec<u8>, ShelfFault> {
         match self.read(name, max) {
@@ -63,15 +60,14 @@ pub struct StdSink<'a, R> {
 }
 
 impl<'a, R: Print> StdSink<'a, R> {
+    /// Standard output, to which nothing was written yet.
     pub fn new(rt: &'a R) -> StdSink<'a, R> {
         StdSink { rt, faults: 0 }
     }
 }
 
 impl<R: Print> Sink for StdSink<'_, R> {
-    ghost written = { λ _. None };
-
-    ghost faults = { λ s. s.faults };
+    ghost shown = { λ s. record { written = None; faults = s.faults } };
 
     fn put(&mut self, piece: &[u8]) -> Result<(), SinkFault> {
         match io::writer(self.rt).write_all(piece) {

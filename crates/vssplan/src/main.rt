@@ -1,36 +1,29 @@
-//! Designs layouts of virtual sub-sections for ETCS Hybrid Train Detection.
+//! The program: the words of the command line, the files of the system, standard output, and the exit status.
 #![tactic(auto)]
 
-mod answer;
-mod breach;
-mod documents;
 mod edge;
-mod names;
-mod report;
-mod run;
-mod status;
-mod stop;
-#[cfg(test)]
-mod test_texts;
 #[cfg(test)]
 mod tests;
-mod words;
 
 use edge::{FileShelf, StdSink};
-use status::Status;
 use std::alloc::AllocError;
 use std::env;
 use std::io::ErrorKind;
 use std::process::ExitCode;
+use vss_run::{Status, run};
 
 fn main(rt: HostRuntime) -> ExitCode {
-    let Ok(words) = words_of(&rt) else {
-        return ExitCode::from(Status::Memory.number());
+    call(&rt).exit_code()
+}
+
+/// One call of the program, with the files of the system and standard output.
+fn call(rt: &HostRuntime) -> Status {
+    let Ok(words) = words_of(rt) else {
+        return Status::Memory;
     };
-    let mut shelf = FileShelf::new(&rt, rt.alloc());
-    let mut out = StdSink::new(&rt);
-    let status = run::run(rt.alloc(), words.as_slice(), &mut shelf, &mut out);
-    ExitCode::from(status.number())
+    let mut shelf = FileShelf::new(rt, rt.alloc());
+    let mut out = StdSink::new(rt);
+    run(rt.alloc(), words.as_slice(), &mut shelf, &mut out)
 }
 
 /// The words behind the program's name; none where one of them isn't text, since that asks for no task.

@@ -1,3 +1,5 @@
+//! The rules of border sets.
+
 ghost use Rattle.std.specs.Prelude.{◌<◌, ◌^◌, MatchOption, length};
 ghost use Rattle.vss_lists.specs.Breaks.{HoldsOfEach, BreaksFirstAt};
 ghost use Rattle.cell_net.specs.Borders.{IsCandidate, RisesAt};

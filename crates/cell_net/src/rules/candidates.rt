@@ -1,53 +1,47 @@
-ghost use Rattle.std.specs.Prelude.{◌↔◌, ℕ, IfOk, IsTrue, MatchOption, ◌<◌, ◌≤◌, ◌^◌, length};
+//! The rule of candidates.
+
+ghost use Rattle.std.specs.Prelude.{◌≡◌, ◌≢◌, ◌⊎◌, ◌↔◌, All, Contains, IsTrue, MatchOption, ◌<◌, ◌^◌, length};
 ghost use Rattle.vss_lists.specs.Breaks.{HoldsOfEach, BreaksFirstAt};
-ghost use Rattle.cell_net.specs.Borders.{IsInSection};
-ghost use Rattle.std.specs.List.Sorted.{IsNonDecreasingBy};
-ghost use Rattle.cell_net.specs.Ends.{AreEndsOf};
+ghost use Rattle.node_groups.specs.Ends.{IsInOrder};
+ghost use Rattle.cell_net.specs.CellEnds.{AreCellEnds, AreOfTwo};
 ghost use Rattle.cell_net.specs.Rules.{IsGoodCandidate, JoinsTwoCells};
 
 use super::rising::is_above_last;
-use crate::ends::{NodeEnd, ends_at, ends_of, two_cells};
-use crate::ids::{CellId, NodeId, SectionId};
+use crate::ids::NodeId;
+use crate::limits::CANDIDATES;
 use crate::parts::InstanceParts;
-use std::alloc::{AllocError, Global};
+use node_groups::{End, ends_at};
 use std::marker::Model;
 use vss_lists::{Rule, first_break};
 
-/// At most so many candidates.
-const CANDIDATES: u32 = 512;
-
-/// The place of the first candidate that breaks its rule; linear in the cells and the candidates, up
-/// to the sorting of the cells' ends.
-pub(crate) fn first_bad_candidate(
-    alloc: Global,
-    parts: &InstanceParts,
-) -> Result<Option<u32>, AllocError>
-    requires cells { length parts.now.cells ≤ 1000 }
+/// The place of the first candidate that breaks its rule, by the ends of all cells in order; logarithmic in
+/// them for each candidate, without memory.
+pub(crate) fn first_bad_candidate(parts: &InstanceParts, ends: &[End]) -> Option<u32>
     requires candidates { length parts.now.candidates < 2 ^ 32 }
-    ensures { IfOk result (λ first. MatchOption first (HoldsOfEach (IsGoodCandidate parts.now) parts.now.candidates) (BreaksFirstAt (IsGoodCandidate parts.now) parts.now.candidates)) }
+    requires ends { AreCellEnds parts.now ends.now }
+    requires order { IsInOrder ends.now }
+    ensures { MatchOption result (HoldsOfEach (IsGoodCandidate parts.now) parts.now.candidates) (BreaksFirstAt (IsGoodCandidate parts.now) parts.now.candidates) }
 {
-    let ends = ends_of(alloc, parts)?;
-    let rule = CandidateRule { parts, ends };
-    Ok(first_break(&rule, parts.candidates.as_slice()))
+    first_break(&CandidateRule { parts, ends }, parts.candidates.as_slice())
 }
 
-/// The rule of candidates, with the ends of all cells by rising nodes. Contracts see it as the parts.
+/// The rule of candidates, with the ends of all cells in order. Contracts see it as the parts.
 #[derive(Drop)]
 struct CandidateRule<'a> {
     parts: &'a InstanceParts,
-    ends: Vec<NodeEnd>,
+    ends: &'a [End],
 }
 
 impl<'a> Model for CandidateRule<'a> {
-    ghost use Rattle.std.specs.List.Sorted.{IsNonDecreasingBy};
+    ghost use Rattle.node_groups.specs.Ends.{IsInOrder};
     ghost use Rattle.cell_net.specs.declared.parts.InstanceParts.{InstanceParts};
-    ghost use Rattle.cell_net.specs.Ends.{AreEndsOf};
+    ghost use Rattle.cell_net.specs.CellEnds.{AreCellEnds};
 
     ghost Value = { InstanceParts };
 
     ghost view = { λ r. r.parts.now };
 
-    ghost invariant = { λ r. AreEndsOf r.parts.now r.ends.items × IsNonDecreasingBy (λ e. e.node) r.ends.items };
+    ghost invariant = { λ r. AreCellEnds r.parts.now r.ends.now × IsInOrder r.ends.now };
 }
 
 impl<'a> Rule<NodeId> for CandidateRule<'a> {
@@ -57,45 +51,50 @@ impl<'a> Rule<NodeId> for CandidateRule<'a> {
         place < CANDIDATES
             && is_above_last(self.parts.candidates.as_slice(), place, node)
             && node.0 < self.parts.nodes
-            && joins_two_cells(self.parts, &self.ends, *node)
+            && joins_two_cells(self.parts, self.ends, *node)
     }
 }
 
 /// Whether exactly two cells have the node at an end, and they are of one section.
-fn joins_two_cells(parts: &InstanceParts, ends: &[NodeEnd], node: NodeId) -> bool
-    requires all { AreEndsOf parts.now ends.now }
-    requires rising { IsNonDecreasingBy (λ e. e.node) ends.now }
+fn joins_two_cells(parts: &InstanceParts, ends: &[End], node: NodeId) -> bool
+    requires ends { AreCellEnds parts.now ends.now }
+    requires order { IsInOrder ends.now }
     ensures { IsTrue result ↔ JoinsTwoCells parts.now node }
 {
-    match two_cells(ends_at(ends, node)) {
+    match two_ends(ends_at(ends, node.0)) {
         None => false,
-        Some((one, other)) => are_of_one_section(parts, one, other),
+        Some((one, other)) => one.part == other.part,
     }
 }
 
-fn are_of_one_section(parts: &InstanceParts, one: CellId, other: CellId) -> bool
-    ensures { IsTrue result ↔ ((section : ℕ) × IsInSection parts.now section one × IsInSection parts.now section other) }
+/// An end of each of the two cells that the ends are of, if they are of two.
+fn two_ends(ends: &[End]) -> Option<(End, End)>
+    ensures { MatchOption result ((one other : End) → ¬ AreOfTwo ends.now one other) (λ found. AreOfTwo ends.now found.0 found.1) }
 {
-    match section_of(parts, one) {
-        None => false,
-        Some(section) => is_in_section(parts, section, other),
+    let one = *ends.first()?;
+    let other = end_of_another(ends, one)?;
+    if are_all_of(ends, one, other) {
+        Some((one, other))
+    } else {
+        None
     }
 }
 
-#[tactic(auto, using(crate::proofs::RuleLemmas::one_section))]
-fn is_in_section(parts: &InstanceParts, section: SectionId, cell: CellId) -> bool
-    ensures { IsTrue result ↔ IsInSection parts.now section.0 cell }
+/// The first of the ends that isn't of the same cell.
+fn end_of_another(ends: &[End], one: End) -> Option<End>
+    ensures { MatchOption result (All (λ e. e.place ≡ one.place) ends.now) (λ other. Contains ends.now other × (other.place ≢ one.place)) }
 {
-    match section_of(parts, cell) {
-        None => false,
-        Some(its) => its.0 == section.0,
+    for end in ends {
+        if end.place != one.place {
+            return Some(*end);
+        }
     }
+    None
 }
 
-/// The section of a cell, if it is a cell.
-fn section_of(parts: &InstanceParts, cell: CellId) -> Option<SectionId>
-    ensures { MatchOption result ((section : ℕ) → ¬ IsInSection parts.now section cell) (λ section. IsInSection parts.now section.0 cell) }
+fn are_all_of(ends: &[End], one: End, other: End) -> bool
+    ensures { IsTrue result ↔ All (λ e. (e.place ≡ one.place) ⊎ (e.place ≡ other.place)) ends.now }
 {
-    let cell = parts.cells.get(cell.0 as usize)?;
-    Some(cell.section)
+    ends.iter()
+        .all(|end| end.place == one.place || end.place == other.place)
 }

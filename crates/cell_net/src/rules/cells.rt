@@ -1,18 +1,15 @@
-ghost use Rattle.std.specs.Prelude.{◌≡◌, ◌↔◌, IsTrue, option_map, slice_get, ◌<◌, ◌^◌, length, MatchOption};
+//! The rule of cells.
+
+ghost use Rattle.std.specs.Prelude.{◌↔◌, IsTrue, ◌<◌, ◌^◌, length, MatchOption};
 ghost use Rattle.vss_lists.specs.Breaks.{HoldsOfEach, BreaksFirstAt};
 ghost use Rattle.cell_net.specs.Space.{IsCell};
-ghost use Rattle.cell_net.specs.Rules.{IsGoodCell, IsGoodJoin, IsGoodKept, IsGoodStation, IsNodeOf};
+ghost use Rattle.cell_net.specs.Rules.{IsGoodCell};
 
-use crate::cells::{CellEnd, CellSpec, End, JoinSpec};
-use crate::ids::{CandidateId, CellId, NodeId};
+use crate::cells::CellSpec;
+use crate::ids::CellId;
+use crate::limits::{ADVANCE, CELLS};
 use crate::parts::InstanceParts;
-use vss_lists::{Items, Rule, first_break};
-
-/// At most so many cells.
-const CELLS: u32 = 1_000;
-
-/// The greatest advance, in cells per step.
-pub(super) const ADVANCE: u32 = 20;
+use vss_lists::{Rule, first_break};
 
 /// The place of the first cell that breaks its rule.
 pub(crate) fn first_bad_cell(parts: &InstanceParts) -> Option<u32>

@@ -1,3 +1,5 @@
+//! The rule of joins.
+
 ghost use Rattle.std.specs.Prelude.{◌≡◌, ◌↔◌, ℕ, IsTrue, MatchOption, Some, slice_get, ◌<◌, ◌^◌, length};
 ghost use Rattle.vss_lists.specs.Breaks.{HoldsOfEach, BreaksFirstAt};
 ghost use Rattle.cell_net.specs.Rules.{IsGoodJoin, IsNodeOf, node_at};

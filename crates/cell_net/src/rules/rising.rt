@@ -1,3 +1,5 @@
+//! What is known by numbers that rise.
+
 ghost use Rattle.std.specs.Prelude.{◌≡◌, ◌↔◌, ℕ, IsTrue};
 ghost use Rattle.cell_net.specs.Borders.{IsAboveLast};
 

@@ -1,24 +1,32 @@
-ghost use Rattle.std.specs.Prelude.{IfOk, MatchOption, ◌<◌, ◌≤◌, length};
-ghost use Rattle.vss_lists.specs.Breaks.{HoldsOfEach};
-ghost use Rattle.cell_net.specs.Rules.{IsGoodCell};
-ghost use Rattle.cell_net.specs.Sections.{HasGoodSections, IsFirstBadSection};
+//! The rule of sections.
 
+ghost use Rattle.std.specs.Prelude.{◌≡◌, ◌≤◌, IfOk, MatchOption, length, map};
+ghost use Rattle.vss_lists.specs.Breaks.{FailsFirstAt, HoldsOfEach, HoldsOfNumbers};
+ghost use Rattle.node_groups.specs.Ends.{AreEndsOf, IsInOrder};
+ghost use Rattle.cell_net.specs.Rules.{IsGoodCell};
+ghost use Rattle.cell_net.specs.Sections.{IsConnected};
+ghost use Rattle.cell_net.specs.Segments.{segment_of};
+
+use crate::limits::CELLS;
 use crate::parts::InstanceParts;
-use crate::segments::segments_of;
-use node_groups::first_bad_part;
+use node_groups::{End, Segment, first_split_part};
 use std::alloc::{AllocError, Global};
 
-/// The lowest section whose cells are not connected, or are at least as many as the nodes that they
-/// touch; in the time of sorting the cells' ends.
+/// The lowest section whose cells are not connected; in the time of sorting the cells' ends.
 pub(crate) fn first_bad_section(
     alloc: Global,
     parts: &InstanceParts,
+    segments: &[Segment],
+    ends: &[End],
 ) -> Result<Option<u32>, AllocError>
-    requires few { length parts.now.cells ≤ 1000 }
     requires cells { HoldsOfEach (IsGoodCell parts.now) parts.now.cells }
-    ensures { IfOk result (λ first. MatchOption first (HasGoodSections parts.now) (IsFirstBadSection parts.now)) }
+    requires segments { segments.now ≡ map segment_of parts.now.cells }
+    requires few { length segments.now ≤ CELLS }
+    requires ends { AreEndsOf segments.now ends.now }
+    requires order { IsInOrder ends.now }
+    ensures { IfOk result (λ first. MatchOption first (HoldsOfNumbers (IsConnected parts.now) parts.now.sections)
+        (FailsFirstAt (IsConnected parts.now) parts.now.sections)) }
 {
-    let segments = segments_of(alloc, parts)?;
-    let section = first_bad_part(alloc, &segments)?;
+    let section = first_split_part(alloc, segments, ends)?;
     Ok(section)
 }

@@ -1,17 +1,14 @@
+//! The rule of trains.
+
 ghost use Rattle.std.specs.Prelude.{◌↔◌, All, IsTrue, ◌<◌, ◌^◌, length, MatchOption};
 ghost use Rattle.vss_lists.specs.Breaks.{HoldsOfEach, BreaksFirstAt};
 ghost use Rattle.cell_net.specs.Rules.{IsGoodStop, IsGoodTrain};
 
-use super::cells::{ADVANCE, is_cell};
+use super::cells::is_cell;
+use crate::limits::{ADVANCE, LENGTH, TRAINS};
 use crate::parts::InstanceParts;
 use crate::trains::{StopSpec, TrainSpec};
 use vss_lists::{Rule, first_break};
-
-/// At most so many trains.
-const TRAINS: u32 = 32;
-
-/// The greatest length, in cells.
-const LENGTH: u32 = 64;
 
 /// The place of the first train that breaks its rule.
 pub(crate) fn first_bad_train(parts: &InstanceParts) -> Option<u32>
@@ -38,7 +35,8 @@ impl<'a> Rule<TrainSpec> for TrainRule<'a> {
             && train.advance <= ADVANCE
             && is_cell(parts, train.entry.cell)
             && is_cell(parts, train.goal.cell)
-            && train.start <= train.by
+            && train.start <= train.latest
+            && train.latest <= train.by
             && train.by < parts.steps
             && are_good_stops(parts, train.stops.as_slice())
     }

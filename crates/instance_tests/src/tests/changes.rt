@@ -40,8 +40,10 @@ pub(super) enum TrainChange {
     Advance(u32),
     Entry(u32),
     Goal(u32),
-    /// The step of the start, and the last step.
+    /// The step of the entry, and the last step.
     Times(u32, u32),
+    /// The first and the last step of the entry, and the last step.
+    Window(u32, u32, u32),
     /// Of each stop the station, the window's first step, the step behind it, and the dwell.
     Stops(&'static [(u32, u32, u32, u32)]),
 }
@@ -214,7 +216,7 @@ fn station(alloc: Global, cells: &[u32]) -> Result<Items<CellId>, AllocError> {
     Ok(Items::from_vec(cells))
 }
 
-/// A train from cell 0 to cell 3, from step 0 to step 9.
+/// A train from cell 0 to cell 3, that enters at step 0 and may arrive up to step 9.
 fn good_train(alloc: Global) -> TrainSpec {
     TrainSpec {
         length: 1,
@@ -222,6 +224,7 @@ fn good_train(alloc: Global) -> TrainSpec {
         entry: headed_up(0),
         goal: headed_up(3),
         start: 0,
+        latest: 0,
         by: 9,
         stops: Items::new(alloc),
     }
@@ -241,13 +244,17 @@ fn changed_train(alloc: Global, change: TrainChange) -> Result<TrainSpec, AllocE
         TrainChange::Advance(advance) => train.advance = advance,
         TrainChange::Entry(cell) => train.entry = headed_up(cell),
         TrainChange::Goal(cell) => train.goal = headed_up(cell),
-        TrainChange::Times(start, by) => {
-            train.start = start;
-            train.by = by;
-        }
+        TrainChange::Times(start, by) => set_window(&mut train, start, start, by),
+        TrainChange::Window(start, latest, by) => set_window(&mut train, start, latest, by),
         TrainChange::Stops(stops) => train.stops = stops_of(alloc, stops)?,
     }
     Ok(train)
+}
+
+fn set_window(train: &mut TrainSpec, start: u32, latest: u32, by: u32) {
+    train.start = start;
+    train.latest = latest;
+    train.by = by;
 }
 
 fn stops_of(alloc: Global, stops: &[(u32, u32, u32, u32)]) -> Result<Items<StopSpec>, AllocError> {

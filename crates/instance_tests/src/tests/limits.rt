@@ -3,12 +3,13 @@
 use super::changes::Change::{
     Candidate, Candidates, Cell, Cells, Join, Kept, Nodes, Sections, Station, Steps, Train, Trains,
 };
-use super::changes::TrainChange::{Advance, Entry, Goal, Length, Stops, Times};
+use super::changes::TrainChange::{Advance, Entry, Goal, Length, Stops, Times, Window};
 use super::changes::{Change, NO_CELLS, Row, TRACK, check_rows};
 use cell_net::BuildRefusal::{
     BadCandidate, BadCell, BadJoin, BadKept, BadSection, BadStation, BadSteps, BadTrain,
 };
 use cell_net::End::{High, Low};
+use cell_net::limits;
 use std::test::Fail;
 
 static STEPS: [Row; 6] = [
@@ -71,7 +72,7 @@ fn joins_are_of_two_ends_at_one_node(rt: HostRuntime) -> Result<(), Fail> {
     check_rows(&rt, rt.alloc(), &[TRACK], &JOINS)
 }
 
-static SECTIONS: [Row; 11] = [
+static SECTIONS: [Row; 12] = [
     // a section of one cell, a leg, and an empty section
     (&[Cell(4, 5, 2, 20)], Ok(())),
     (&[Cell(1, 5, 0, 20)], Ok(())),
@@ -79,20 +80,29 @@ static SECTIONS: [Row; 11] = [
     // falls apart: without a link, or with one by another section
     (&[Cell(4, 5, 0, 20)], Err(BadSection(0))),
     (&[Cell(0, 1, 2, 20), Cell(2, 3, 2, 20)], Err(BadSection(2))),
-    // a ring: as many cells as nodes, of three nodes and of two
-    (&[Cell(0, 2, 0, 20)], Err(BadSection(0))),
-    (&[Cell(4, 5, 2, 20), Cell(5, 4, 2, 20)], Err(BadSection(2))),
-    (&[Cell(2, 3, 1, 20)], Err(BadSection(1))),
-    // more cells than nodes
-    (&[Cell(0, 2, 0, 20), Cell(0, 2, 0, 20)], Err(BadSection(0))),
-    // falls apart and has a ring: fewer cells than nodes
+    // a ring, of three nodes and of two
+    (&[Cell(0, 2, 0, 20)], Ok(())),
+    (&[Cell(4, 5, 2, 20), Cell(5, 4, 2, 20)], Ok(())),
+    // several rings, which share nodes
+    (&[Cell(0, 2, 0, 20), Cell(0, 2, 0, 20)], Ok(())),
+    (&[Cell(2, 3, 1, 20), Cell(3, 4, 1, 20)], Ok(())),
+    // two rings that share no node, and a ring beside a cell
+    (
+        &[
+            Cell(0, 1, 2, 20),
+            Cell(1, 0, 2, 20),
+            Cell(3, 4, 2, 20),
+            Cell(4, 3, 2, 20),
+        ],
+        Err(BadSection(2)),
+    ),
     (&[Cell(0, 1, 0, 20), Cell(4, 5, 0, 20)], Err(BadSection(0))),
     // a ring of cells of three sections
     (&[Cell(4, 0, 2, 20)], Ok(())),
 ];
 
 #[test]
-fn sections_are_connected_and_close_no_ring(rt: HostRuntime) -> Result<(), Fail> {
+fn sections_are_connected_and_may_close_rings(rt: HostRuntime) -> Result<(), Fail> {
     check_rows(&rt, rt.alloc(), &[TRACK], &SECTIONS)
 }
 
@@ -160,7 +170,7 @@ fn stations_have_cells(rt: HostRuntime) -> Result<(), Fail> {
     check_rows(&rt, rt.alloc(), &[TRACK], &STATIONS)
 }
 
-static TRAINS: [Row; 19] = [
+static TRAINS: [Row; 24] = [
     (&[Train(Length(0))], Err(BadTrain(0))),
     (&[Train(Length(1))], Ok(())),
     (&[Train(Length(64))], Ok(())),
@@ -174,10 +184,16 @@ static TRAINS: [Row; 19] = [
     (&[Train(Entry(4))], Err(BadTrain(0))),
     (&[Train(Goal(0))], Ok(())),
     (&[Train(Goal(4))], Err(BadTrain(0))),
-    // a start after the last step
+    // an entry after the last step
     (&[Train(Times(4, 5))], Ok(())),
     (&[Train(Times(5, 5))], Ok(())),
     (&[Train(Times(6, 5))], Err(BadTrain(0))),
+    // a window of entry of one step, that ends before it begins, up to the last step, and past it
+    (&[Train(Window(4, 4, 9))], Ok(())),
+    (&[Train(Window(4, 3, 9))], Err(BadTrain(0))),
+    (&[Train(Window(2, 8, 8))], Ok(())),
+    (&[Train(Window(2, 9, 8))], Err(BadTrain(0))),
+    (&[Train(Window(0, 9, 9))], Ok(())),
     // a last step past the horizon
     (&[Train(Times(9, 9))], Ok(())),
     (&[Train(Times(0, 10))], Err(BadTrain(0))),
@@ -224,19 +240,34 @@ fn stops_are_at_stations_and_fit_their_windows(rt: HostRuntime) -> Result<(), Fa
 static COUNTS: [Row; 11] = [
     (&[], Ok(())),
     (&[Nodes(0), Sections(0)], Ok(())),
-    (&[Cells(999)], Ok(())),
-    (&[Cells(1_000)], Ok(())),
-    (&[Cells(1_001)], Err(BadCell(1_000))),
-    (&[Cells(1_000), Candidates(511)], Ok(())),
-    (&[Cells(1_000), Candidates(512)], Ok(())),
-    (&[Cells(1_000), Candidates(513)], Err(BadCandidate(512))),
-    (&[Cells(4), Trains(31)], Ok(())),
-    (&[Cells(4), Trains(32)], Ok(())),
-    (&[Cells(4), Trains(33)], Err(BadTrain(32))),
+    (&[Cells(limits::CELLS - 1)], Ok(())),
+    (&[Cells(limits::CELLS)], Ok(())),
+    (&[Cells(limits::CELLS + 1)], Err(BadCell(limits::CELLS))),
+    (&[Cells(1_000), Candidates(limits::CANDIDATES - 1)], Ok(())),
+    (&[Cells(1_000), Candidates(limits::CANDIDATES)], Ok(())),
+    (
+        &[Cells(1_000), Candidates(limits::CANDIDATES + 1)],
+        Err(BadCandidate(limits::CANDIDATES)),
+    ),
+    (&[Cells(4), Trains(limits::TRAINS - 1)], Ok(())),
+    (&[Cells(4), Trains(limits::TRAINS)], Ok(())),
+    (
+        &[Cells(4), Trains(limits::TRAINS + 1)],
+        Err(BadTrain(limits::TRAINS)),
+    ),
 ];
 
 #[test]
 fn there_are_at_most_1000_cells_512_candidates_and_32_trains(rt: HostRuntime) -> Result<(), Fail> {
+    let told = [
+        limits::CELLS,
+        limits::CANDIDATES,
+        limits::TRAINS,
+        limits::STEPS,
+        limits::LENGTH,
+        limits::ADVANCE,
+    ];
+    assert_eq!(rt; told, [1_000, 512, 32, 400, 64, 20]);
     check_rows(&rt, rt.alloc(), &[NO_CELLS], &COUNTS)
 }
 
@@ -256,10 +287,7 @@ static HIGHEST: [Row; 10] = [
         &[Cell(0, 1, LAST, 20), Cell(2, 3, LAST, 20)],
         Err(BadSection(LAST)),
     ),
-    (
-        &[Cell(0, LAST, LAST, 20), Cell(LAST, 0, LAST, 20)],
-        Err(BadSection(LAST)),
-    ),
+    (&[Cell(0, LAST, LAST, 20), Cell(LAST, 0, LAST, 20)], Ok(())),
     (
         &[Cell(4, LAST, 1, 20), Cell(LAST, 5, 1, 20), Candidate(LAST)],
         Ok(()),

@@ -70,10 +70,10 @@ static PLACES: [Row; 10] = [
         ],
         Err(BadJoin(4)),
     ),
-    // two sections with a ring, and one with a ring and one that falls apart; the cell of the higher one first
-    (&[Cell(2, 4, 1, 20), Cell(0, 2, 0, 20)], Err(BadSection(0))),
-    (&[Cell(0, 5, 1, 20), Cell(0, 2, 0, 20)], Err(BadSection(0))),
-    (&[Cell(2, 4, 1, 20), Cell(4, 5, 0, 20)], Err(BadSection(0))),
+    // two sections that fall apart, the cell of the higher one first; and one before which one has a ring
+    (&[Cell(0, 5, 1, 20), Cell(4, 5, 0, 20)], Err(BadSection(0))),
+    (&[Cell(0, 5, 1, 20), Cell(3, 5, 0, 20)], Err(BadSection(0))),
+    (&[Cell(0, 2, 0, 20), Cell(0, 5, 1, 20)], Err(BadSection(1))),
     (&[Candidate(0), Candidate(0)], Err(BadCandidate(0))),
     (
         &[Candidate(3), Candidate(1), Candidate(4)],

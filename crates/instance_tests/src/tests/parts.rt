@@ -1,7 +1,7 @@
 //! What an instance tells of its parts.
 
 use super::changes::Change::{Candidate, Kept, Station, Train};
-use super::changes::TrainChange::{Stops, Times};
+use super::changes::TrainChange::{Stops, Window};
 use super::changes::{Change, TRACK, build};
 use cell_net::{
     CandidateId, CellId, CellSpec, Instance, NodeId, SectionId, StationId, StopSpec, TrainId,
@@ -16,7 +16,7 @@ const MORE: &[Change] = &[
     Kept(1),
     Station(&[1]),
     Station(&[3, 2]),
-    Train(Times(2, 7)),
+    Train(Window(2, 5, 7)),
     Train(Stops(&[(1, 3, 6, 2)])),
 ];
 
@@ -70,17 +70,18 @@ fn check_station(rt: &impl Abort, inst: &Instance) {
 
 fn check_train(rt: &impl Abort, inst: &Instance) {
     assert!(rt; 0 < inst.train_count());
-    assert_eq!(rt; numbers_of(inst.train(TrainId(0))), [1, 1, 0, 3, 2, 7]);
+    assert_eq!(rt; numbers_of(inst.train(TrainId(0))), [1, 1, 0, 3, 2, 5, 7]);
 }
 
-/// The length, the advance, the entry and the goal, and the first and the last step.
-fn numbers_of(train: &TrainSpec) -> [u32; 6] {
+/// The length, the advance, the entry and the goal, the first and the last step of the entry, and the last step.
+fn numbers_of(train: &TrainSpec) -> [u32; 7] {
     [
         train.length,
         train.advance,
         train.entry.cell.0,
         train.goal.cell.0,
         train.start,
+        train.latest,
         train.by,
     ]
 }

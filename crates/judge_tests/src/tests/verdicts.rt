@@ -13,22 +13,22 @@ use std::process::Abort;
 use std::test::Fail;
 use vss_lists::Items;
 
-/// For each train the cells that it touches at steps 0, 1 and so on.
+/// For each train the cells that it touches at the steps from its start on.
 type Runs<'a> = &'a [&'a [&'a [DirCell]]];
 
-fn run_of(alloc: Global, touched: &[&[DirCell]]) -> Result<TrainRun, AllocError> {
+fn run_of(alloc: Global, start: u32, touched: &[&[DirCell]]) -> Result<TrainRun, AllocError> {
     let mut sweeps = Items::new(alloc);
     for cells in touched {
         let cells = Items::from_vec(cells.to_vec(alloc)?);
         sweeps.push(Sweep { cells })?;
     }
-    Ok(TrainRun { start: 0, sweeps })
+    Ok(TrainRun { start, sweeps })
 }
 
-fn plan_of(alloc: Global, touched: Runs) -> Result<Plan, AllocError> {
+fn plan_of(alloc: Global, start: u32, touched: Runs) -> Result<Plan, AllocError> {
     let mut runs = Items::new(alloc);
     for cells in touched {
-        runs.push(run_of(alloc, cells)?)?;
+        runs.push(run_of(alloc, start, cells)?)?;
     }
     Ok(Plan { runs })
 }
@@ -47,8 +47,21 @@ fn check_verdict(
     touched: Runs,
     want: Verdict,
 ) -> Result<(), Fail> {
+    check_verdict_from(rt, alloc, inst, borders, 0, touched, want)
+}
+
+/// Wants the verdict on the plan of all trains that begins at the step.
+fn check_verdict_from(
+    rt: &impl Abort,
+    alloc: Global,
+    inst: &Instance,
+    borders: &[u32],
+    start: u32,
+    touched: Runs,
+    want: Verdict,
+) -> Result<(), Fail> {
     let layout = layout_of(rt, alloc, inst, borders)?;
-    let plan = plan_of(alloc, touched)?;
+    let plan = plan_of(alloc, start, touched)?;
     assert_eq!(rt; plan.runs.len(), inst.train_count() as usize);
     assert!(rt; are_short(plan.runs.as_slice()));
     assert_eq!(rt; judge(alloc, inst, &layout, &plan)?, want);
@@ -63,6 +76,7 @@ fn train(alloc: Global, entry: DirCell, goal: DirCell, by: u32) -> TrainSpec {
         entry,
         goal,
         start: 0,
+        latest: 0,
         by,
         stops: Items::new(alloc),
     }
@@ -105,6 +119,25 @@ fn a_layout_has_to_hold_the_kept_borders(rt: HostRuntime) -> Result<(), Fail> {
     let runs: Runs = &[&[&[up(0), up(1)]]];
     check_verdict(&rt, alloc, &inst, &[0], runs, Verdict::Lawful)?;
     check_verdict(&rt, alloc, &inst, &[], runs, missing)
+}
+
+// The step at which the train enters, and whether it is within its window.
+static ENTRIES: [(u32, bool); 4] = [(0, false), (1, true), (2, true), (3, false)];
+
+#[test]
+fn a_train_enters_within_its_window(rt: HostRuntime) -> Result<(), Fail> {
+    let alloc = rt.alloc();
+    let mut late = train(alloc, up(0), up(0), 2);
+    late.start = 1;
+    late.latest = 2;
+    let inst = instance_of(&rt, alloc, track(), one_train(alloc, late)?)?;
+    let entry = Verdict::Breach(Breach::Entry { train: TrainId(0) });
+    let runs: Runs = &[&[&[up(0)]]];
+    for (start, within) in ENTRIES {
+        let want = if within { Verdict::Lawful } else { entry };
+        check_verdict_from(&rt, alloc, &inst, &[], start, runs, want)?;
+    }
+    Ok(())
 }
 
 fn two_trains(alloc: Global, one: TrainSpec, other: TrainSpec) -> Result<Traffic, AllocError> {

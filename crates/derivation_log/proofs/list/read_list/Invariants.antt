@@ -1,10 +1,6 @@
-use Rattle.std.specs.Prelude.{length}
-use Rattle.derivation_log.proofs.ListLemmas.{IsReading}
+use Rattle.derivation_log.proofs.ListLemmas.{IsPartlyRead}
 use Rattle.derivation_log.proofs.list.read_list.Given as goal
 
--- these words are read of the text, and this is left of it
-abbrev pub invariant-loop-rest : goal.invariant-loop-rest
-invariant-loop-rest g l = IsReading g.W.Word.spelled g.W.Word.in_range l.fn.text l.words.items l.rest
-
-abbrev pub decreases-loop-rest : goal.decreases-loop-rest
-decreases-loop-rest g l = length l.rest
+-- so many words are read, and the text is left of the others
+abbrev pub invariant-loop : goal.invariant-loop
+invariant-loop g l = IsPartlyRead g.W.Word.spelled g.W.Word.in_range g.met.W.Word.no_zero g.met.W.Word.one_reading l.list l.words.items l.rest l.counter

@@ -1,11 +1,8 @@
-use Rattle.std.proofs.Common.{◌++◌, ◌≤◌, drop}
-use Rattle.vss_io.specs.Written.{PutsAllBut}
+use Rattle.std.proofs.Common.{◌++◌, drop}
+use Rattle.vss_io.specs.Written.{HasPrinted}
 use Rattle.derivation_log.specs.Text.{list_text}
 use Rattle.derivation_log.proofs.write.add_list.Given as goal
 
--- all is put but what is kept and the words that are left
+-- all is printed but what is kept and the words that are left
 abbrev pub invariant-loop-word : goal.invariant-loop-word
-invariant-loop-word g l = record {
-  printed : PutsAllBut (g.K.Sink.written l.initial.out) (g.K.Sink.written l.out) (l.text ++ list_text g.W.Word.spelled (drop l.word-index l.words)) (l.initial.text ++ list_text g.W.Word.spelled l.words);
-  never_falls : g.K.Sink.faults l.initial.out ≤ g.K.Sink.faults l.out;
-}
+invariant-loop-word g l = HasPrinted (g.K.Sink.shown l.initial.out) (g.K.Sink.shown l.out) (l.text ++ list_text g.W.Word.spelled (drop l.word-index l.words)) (l.initial.text ++ list_text g.W.Word.spelled l.words)

@@ -4,10 +4,10 @@ use Rattle.log_checker.proofs.DropLemmas.{CanDrop-not, CanDrop-more, DropsAlso-m
 use Rattle.log_checker.proofs.drops.drop_all.Goals as goal
 
 pub returns-in-Err-clause-cannot : goal.returns-in-Err-clause-cannot
-returns-in-Err-clause-cannot c = λ unknown. CanDrop-not c.args.numbers.now c.args.last c.args.dropped.now c.loop-count.dropped c.args.ids.now c.loop-count.count _ (omega arith) c.loop-count.invariant.1 (c.in-Err.ensures.not_live unknown)
+returns-in-Err-clause-cannot c = CanDrop-not c.args.numbers.now c.args.last c.args.dropped.now c.loop-count.dropped c.args.ids.now c.loop-count.count _ (omega arith) c.loop-count.invariant.1 c.in-Err.ensures.not_live
 
 pub returns-in-Err-clause-same : goal.returns-in-Err-clause-same
-returns-in-Err-clause-same c = SameDrops-revived c.args.numbers.now c.args.last c.args.dropped.now c.drop_one.new.dropped c.revive_all.new.dropped (take c.loop-count.count c.args.ids.now) c.requires c.loop-count.invariant.0 (DropsAlso-same _ _ _ _ _ c.loop-count.invariant.1 c.in-Err.ensures.same) c.revive_all.ensures
+returns-in-Err-clause-same c = SameDrops-revived c.args.numbers.now c.args.last c.args.dropped.now c.drop_one.new.dropped c.revive_all.new.dropped (take c.loop-count.count c.args.ids.now) c.requires.ascending c.loop-count.invariant.0 (DropsAlso-same _ _ _ _ _ c.loop-count.invariant.1 c.in-Err.ensures.same) c.revive_all.ensures
 
 pub loop-count-preserved : goal.loop-count-preserved
 loop-count-preserved c =

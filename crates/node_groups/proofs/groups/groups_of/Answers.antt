@@ -1,13 +1,13 @@
 use Rattle.std.proofs.Common.{IsPermutation}
 use Rattle.std.proofs.lemmas.List.Sorted.{IsNonDecreasingBy-from_sort}
 use Rattle.std.proofs.lemmas.Result.{IfOk-weaker}
-use Rattle.node_groups.specs.Ends.{ends_from}
+use Rattle.node_groups.specs.Ends.{AreEndsOf}
 use Rattle.node_groups.proofs.TouchLemmas.{ends_below, touch_groups, touch_lowest}
 use Rattle.node_groups.proofs.groups.groups_of.Goals as goal
 
 pub groups_by_ends-requires-clause-places : goal.groups_by_ends-requires-clause-places
 groups_by_ends-requires-clause-places c =
-    ends_below c.args.segments.now c.deref.result.now (rw c.deref.ensures.value c.in_ok-ends.ensures.same)
+    ends_below c.args.segments.now c.deref.result.now (rw c.deref.ensures.value c.in_ok-ends.ensures.ends)
 
 pub groups_by_ends-requires-clause-barriers : goal.groups_by_ends-requires-clause-barriers
 groups_by_ends-requires-clause-barriers c =
@@ -15,12 +15,12 @@ groups_by_ends-requires-clause-barriers c =
 
 pub returns-clause-same : goal.returns-clause-same
 returns-clause-same c =
-    let same : IsPermutation (ends_from 0 c.args.segments.now) c.deref.result.now = rw c.deref.ensures.value c.in_ok-ends.ensures.same in
+    let ends : AreEndsOf c.args.segments.now c.deref.result.now = rw c.deref.ensures.value c.in_ok-ends.ensures.ends in
     let sort : IsPermutation c.args.barriers.now c.deref-2.result.now = rw (c.deref-2.ensures.value, ← c.in_ok-sorted_barriers.ensures.items) c.sort_unstable.ensures.permutation in
-    IfOk-weaker _ _ _ (λ groups. touch_groups _ _ same _ _ sort groups.items) c.groups_by_ends.ensures.same
+    IfOk-weaker _ _ _ (λ groups. touch_groups _ _ ends _ _ sort groups.items) c.groups_by_ends.ensures.same
 
 pub returns-clause-lowest : goal.returns-clause-lowest
 returns-clause-lowest c =
-    let same : IsPermutation (ends_from 0 c.args.segments.now) c.deref.result.now = rw c.deref.ensures.value c.in_ok-ends.ensures.same in
+    let ends : AreEndsOf c.args.segments.now c.deref.result.now = rw c.deref.ensures.value c.in_ok-ends.ensures.ends in
     let sort : IsPermutation c.args.barriers.now c.deref-2.result.now = rw (c.deref-2.ensures.value, ← c.in_ok-sorted_barriers.ensures.items) c.sort_unstable.ensures.permutation in
-    IfOk-weaker _ _ _ (λ groups. touch_lowest _ _ same _ _ sort groups.items) c.groups_by_ends.ensures.lowest
+    IfOk-weaker _ _ _ (λ groups. touch_lowest _ _ ends _ _ sort groups.items) c.groups_by_ends.ensures.lowest

@@ -1,6 +1,10 @@
 use Rattle.std.proofs.Common.{ℕ, ◌<◌}
 use Rattle.plan_checker.specs.ClashSearch.{AreAllApart}
+use Rattle.plan_checker.specs.ClassMarks.{AreEarlier}
 use Rattle.plan_checker.proofs.clashes.first_clash_in.Given as goal
 
 abbrev pub invariant-loop-step : goal.invariant-loop-step
-invariant-loop-step l = (s : ℕ) → s < l.step → AreAllApart l.traffic s
+invariant-loop-step l = record {
+  apart : (s : ℕ) → s < l.step → AreAllApart l.traffic s;
+  earlier : AreEarlier l.step l.marks;
+}

@@ -3,17 +3,18 @@ use Rattle.std.proofs.lemmas.Option.{slice_get_read}
 use Rattle.plan_checker.proofs.JudgingLemmas.{runs_more, fails_here}
 use Rattle.plan_checker.proofs.judging.first_bad_run.Goals as goal
 
-pub returns-in-Ok-Some : goal.returns-in-Ok-Some
-returns-in-Ok-Some c =
-    let told = rw c.in-Ok-Some.field-0-is at c.in-Ok-Some.ensures in
-    fails_here c.args.inst.now c.args.runs.now c.loop-place.place c.index-runs-place.result c.in-Ok-Some.fault c.loop-place.invariant (omega arith)
-    (slice_get_read c.args.runs.now (length c.args.runs.now) c.loop-place.place c.index-runs-place.result refl (omega arith) c.index-runs-place.is) told
+pub returns-in-Some : goal.returns-in-Some
+returns-in-Some c =
+    fails_here c.args.inst.now c.args.runs.now c.loop-number.number c.index-runs-number.result c.in-Some.breach c.loop-number.invariant
+    (omega (arith, c.train_count-number-end.ensures.value))
+    (slice_get_read c.args.runs.now (length c.args.runs.now) c.loop-number.number c.index-runs-number.result refl (omega (arith, c.train_count-number-end.ensures.value)) c.index-runs-number.is)
+    (λ t spec. rw c.in-Some.is at (c.in_ok-breach.ensures t spec))
 
-pub loop-place-preserved : goal.loop-place-preserved
-loop-place-preserved c =
-    let told = rw c.in-Ok-None.field-0-is at c.in-Ok-None.ensures in
-    runs_more c.args.inst.now c.args.runs.now c.loop-place.place c.index-runs-place.result c.loop-place.invariant
-    (slice_get_read c.args.runs.now (length c.args.runs.now) c.loop-place.place c.index-runs-place.result refl (omega arith) c.index-runs-place.is) told
+pub loop-number-preserved : goal.loop-number-preserved
+loop-number-preserved c =
+    runs_more c.args.inst.now c.args.runs.now c.loop-number.number c.index-runs-number.result c.loop-number.invariant
+    (slice_get_read c.args.runs.now (length c.args.runs.now) c.loop-number.number c.index-runs-number.result refl (omega (arith, c.train_count-number-end.ensures.value)) c.index-runs-number.is)
+    (λ t spec. rw c.in_default.is at (c.in_ok-breach.ensures t spec))
 
 pub returns : goal.returns
-returns c k t r low spec there = c.loop-place.invariant k t r (omega arith) spec there
+returns c k t r low spec there = c.loop-number.invariant k t r (omega (arith, c.train_count-number-end.ensures.value)) spec there

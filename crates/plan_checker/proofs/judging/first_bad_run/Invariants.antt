@@ -1,5 +1,5 @@
 use Rattle.plan_checker.specs.Verdicts.{HaveRunsBelow}
 use Rattle.plan_checker.proofs.judging.first_bad_run.Given as goal
 
-abbrev pub invariant-loop-place : goal.invariant-loop-place
-invariant-loop-place l = HaveRunsBelow l.inst l.runs l.place
+abbrev pub invariant-loop-number : goal.invariant-loop-number
+invariant-loop-number l = HaveRunsBelow l.inst l.runs l.number

@@ -7,4 +7,4 @@ pub returns : goal.returns
 returns c =
     let whole = written_back c.mark.new.inside _ c.in_ok-inside.inside.len (omega arith) in
     subst (MarksStation c.args.inst.now c.args.station) (sym whole)
-    (station_marks c.args.inst.now c.args.station c.station.result.now c.mark.new.inside c.station.ensures c.mark.ensures)
+    (station_marks c.args.inst.now c.args.station c.station.result.now c.mark.new.inside c.station.ensures.value c.mark.ensures)

@@ -1,5 +1,5 @@
 use Rattle.vss_lists.specs.Breaks.{HoldsBelow}
-use Rattle.plan_checker.specs.RunFaults.{IsMetAt}
+use Rattle.plan_checker.specs.RunRules.{IsMetAt}
 use Rattle.plan_checker.proofs.stops.first_unmet_stop.Given as goal
 
 abbrev pub invariant-loop-place : goal.invariant-loop-place

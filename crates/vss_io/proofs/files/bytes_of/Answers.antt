@@ -1,8 +1,9 @@
+-- Files are looked for alike by name, and among their names and bytes.
 use Rattle.std.proofs.Common.{rules, ◌≡◌, ℕ, List, [], ◌∷◌, refl, true, false}
 use Rattle.std.specs.Prelude.{find, string_bytes, String, Vec, cond, Some}
 use Rattle.std.specs.Option.{option_map}
 use Rattle.std.specs.Str.{bytes_eq}
-use Rattle.vss_io.specs.Files.{named_bytes, file_named}
+use Rattle.vss_io.specs.MemFiles.{named_bytes, file_named}
 use Rattle.vss_io.proofs.files.bytes_of.Goals as goal
 
 -- the file is the same, looked for by its name among the files or among their names and bytes

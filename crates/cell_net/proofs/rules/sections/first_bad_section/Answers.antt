@@ -3,5 +3,5 @@ use Rattle.cell_net.proofs.rules.sections.first_bad_section.Goals as goal
 
 pub returns : goal.returns
 returns c =
-    let found = rw (c.deref.ensures.value, c.in_ok-segments.ensures) at c.in_ok-section.ensures in
+    let found = rw c.requires.segments at c.in_ok-section.ensures in
     first_bad _ c.requires.cells _ found

@@ -1,6 +1,13 @@
-use Rattle.std.proofs.Common.{◌∷◌, ap, ◌∙◌}
-use Rattle.derivation_log.specs.WordLaws.{negative_missing}
+use Rattle.std.proofs.Common.{◌≡◌, ◌∷◌, true, false, drop, refl, arith}
+use Rattle.std.specs.Prelude.{slice_index}
+use Rattle.std.proofs.lemmas.List.{take_rest}
+use Rattle.derivation_log.proofs.NumberLemmas.{negative_misses, positive_misses, begins}
 use Rattle.derivation_log.proofs.word.LitWord.read.Goals as goal
 
-pub returns-in-None-clause-missing : goal.returns-in-None-clause-missing
-returns-in-None-clause-missing c = negative_missing c.args.text.now c.in-Some-eq45-default.behind.now (c.in-Some-eq45-default.ensures.cases.0 ∙ ap (λ first. first ∷ c.in-Some-eq45-default.behind.now) c.in-Some-eq45-default.field-0-0-test) c.in-None.ensures.missing
+pub returns-in-Err-clause-missed : goal.returns-in-Err-clause-missed
+returns-in-Err-clause-missed c =
+    negative_misses c.args.text.now (drop 1 c.args.text.now) c.in-Err.miss (begins 45 c.args.text.now (omega arith) (c.if-begins_with.ensures.0 refl)) (rw take_rest at c.in-Err.ensures.missed)
+
+pub returns-in-Err-number-clause-missed : goal.returns-in-Err-number-clause-missed
+returns-in-Err-number-clause-missed c =
+    positive_misses c.args.text.now c.in-Err-number.miss (λ minus. let never : false ≡ true = c.if-begins_with.ensures.1 minus in cc) c.in-Err-number.ensures.missed

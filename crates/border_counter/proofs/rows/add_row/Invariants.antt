@@ -1,0 +1,7 @@
+use Rattle.std.specs.List.{flat_map, range_with_len}
+use Rattle.border_counter.specs.Adding.{AddsAll}
+use Rattle.border_counter.specs.Counter.{gate_at}
+use Rattle.border_counter.proofs.rows.add_row.Given as goal
+
+abbrev pub invariant-loop-before : goal.invariant-loop-before
+invariant-loop-before l = AddsAll l.initial.formula (flat_map (gate_at l.inputs l.first_var l.row) (range_with_len 1 l.before)) l.formula

@@ -1,0 +1,4 @@
+pub mod Counter
+pub mod Adding
+pub mod Fitting
+pub mod Sizes

@@ -1,8 +1,0 @@
-use Rattle.std.proofs.Common.{rules}
-use Rattle.std.proofs.lemmas.List.Sorted.{IsNonDecreasingBy-from_sort_by_key}
-use Rattle.cell_net.specs.declared.ends.NodeEnd.{NodeEnd}
-use Rattle.cell_net.proofs.ends.sort_ends.Goals as goal
-
-pub returns-clause-rising : goal.returns-clause-rising
-returns-clause-rising c =
-    IsNonDecreasingBy-from_sort_by_key (λ (e : NodeEnd). e.node) _ c.sort_unstable_by_key.ensures.sorted (λ a r f' h. search rules)

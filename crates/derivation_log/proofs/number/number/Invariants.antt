@@ -1,6 +1,0 @@
-use Rattle.derivation_log.proofs.NumberLemmas.{AreRead}
-use Rattle.derivation_log.proofs.number.number.Given as goal
-
--- the digits up to here are read
-abbrev pub invariant-loop-count : goal.invariant-loop-count
-invariant-loop-count l = AreRead l.text l.count l.value

@@ -1,0 +1,4 @@
+mod Shortening
+mod OrderLaws
+mod CandidateLaws
+mod TreeLemmas

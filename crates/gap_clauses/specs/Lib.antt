@@ -1,0 +1,4 @@
+pub mod Walks
+pub mod Gaps
+pub mod Laws
+pub mod Trees

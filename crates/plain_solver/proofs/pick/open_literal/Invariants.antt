@@ -1,0 +1,6 @@
+use Rattle.search_trail.specs.Trails.{known_of}
+use Rattle.plain_solver.proofs.FullLemmas.{AreToldTo}
+use Rattle.plain_solver.proofs.pick.open_literal.Given as goal
+
+abbrev pub invariant-variables : goal.invariant-variables
+invariant-variables l = AreToldTo (known_of l.trail.entries) l.place

@@ -1,0 +1,5 @@
+use Rattle.sat_core.proofs.SoundnessLemmas.{refuted_with_units}
+use Rattle.sat_core.proofs.soundness.refuted_searches_are_sound.Goals as goal
+
+pub returns : goal.returns
+returns c = refuted_with_units

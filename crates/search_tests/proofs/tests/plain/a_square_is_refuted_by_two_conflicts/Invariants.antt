@@ -1,0 +1,7 @@
+use Rattle.search_tests.proofs.tests.plain.a_square_is_refuted_by_two_conflicts.Given as goal
+
+abbrev pub ghosts-first_clause : goal.ghosts-first_clause
+ghosts-first_clause g a = record { name = a.blank.name; parts = a.blank.parts }
+
+abbrev pub ghosts-calls : goal.ghosts-calls
+ghosts-calls g a = record { name = a.blank.name; parts = a.blank.parts }

@@ -1,0 +1,4 @@
+use Rattle.search_tests.proofs.tests.plain.an_empty_clause_is_refuted_at_once.Given as goal
+
+abbrev pub ghosts-calls : goal.ghosts-calls
+ghosts-calls g a = record { name = a.blank.name; parts = a.blank.parts }

@@ -1,0 +1,4 @@
+use Rattle.search_tests.proofs.tests.plain.open_variables_are_decided_false.Given as goal
+
+abbrev pub ghosts-values : goal.ghosts-values
+ghosts-values g a = record { name = a.blank.name; parts = a.blank.parts }

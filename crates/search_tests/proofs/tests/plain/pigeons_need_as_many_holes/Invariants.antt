@@ -1,0 +1,4 @@
+use Rattle.search_tests.proofs.tests.plain.pigeons_need_as_many_holes.Given as goal
+
+abbrev pub ghosts-decides : goal.ghosts-decides
+ghosts-decides g a = record { name = a.blank.name; parts = a.blank.parts }

@@ -1,0 +1,6 @@
+use Rattle.std.specs.Prelude.{◌+◌, ◌*◌, ◌≤◌}
+use Rattle.solver_face.specs.Solving.{taken}
+use Rattle.search_tests.proofs.tests.scenes.calls.Given as goal
+
+abbrev pub invariant-loop-row : goal.invariant-loop-row
+invariant-loop-row g l = taken (g.S.Solver.solving l.solver) ≤ 100000 + 100000 * l.row-index

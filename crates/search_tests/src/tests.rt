@@ -1,0 +1,3 @@
+mod formulas;
+mod plain;
+mod scenes;

@@ -1,0 +1,9 @@
+mod FollowLemmas
+mod GrowLemmas
+mod GrownLaws
+mod SweepLaws
+mod GroupLemmas
+mod OrderLaws
+mod EndLemmas
+mod TableLaws
+mod BuildLemmas

@@ -1,0 +1,5 @@
+use Rattle.sweep_table.specs.Ends.{ArePlacesBelow, last_cells}
+use Rattle.sweep_table.proofs.ends.lasts_of.Given as goal
+
+abbrev pub invariant-loop-place : goal.invariant-loop-place
+invariant-loop-place l = ArePlacesBelow l.sweeps (last_cells l.train) l.place l.lasts.items

@@ -1,0 +1,5 @@
+use Rattle.std.specs.Prelude.{◌≡◌, take}
+use Rattle.sweep_table.proofs.order.is_lower.Given as goal
+
+abbrev pub invariant-loop-place : goal.invariant-loop-place
+invariant-loop-place l = take l.place l.one ≡ take l.place l.other

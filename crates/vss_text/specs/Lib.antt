@@ -1,0 +1,4 @@
+-- What texts are read against.
+pub mod Reading
+pub mod Numbers
+pub mod Lines

@@ -1,6 +1,0 @@
-use Rattle.std.proofs.Common.{◌≡◌, drop}
-use Rattle.vssplan.proofs.Numbers.{read_on}
-use Rattle.vssplan.proofs.report.number.value_of.Given as goal
-
-abbrev pub invariant-loop-digit : goal.invariant-loop-digit
-invariant-loop-digit l = read_on l.value (drop l.digit-index l.digits) ≡ read_on 0 l.digits

@@ -1,8 +1,0 @@
-use Rattle.vssplan.proofs.run.read_network.Goals as goal
-
-pub returns-in-Ok-None-clause-stop : goal.returns-in-Ok-None-clause-stop
-returns-in-Ok-None-clause-stop g c = record {
-  bytes = c.in_ok-bytes.bytes.items;
-  is_read = c.in_ok-bytes.ensures.read;
-  is_none = rw (c.in-Ok-None.field-0-is, c.as_slice.ensures.value) at c.in-Ok-None.ensures;
-}

@@ -1,7 +1,0 @@
-use Rattle.vssplan.proofs.OneAnswer.{is_decisive}
-use Rattle.vssplan.proofs.run.run.Goals as goal
-
-pub returns-in-Ok-print-clause-decisive : goal.returns-in-Ok-print-clause-decisive
-returns-in-Ok-print-clause-decisive g c =
-    is_decisive _ _ (g.H.Shelf.faults c.answer.new.shelf) c.in-Ok.answer _ _ _
-    c.first_breaches_are_one.ensures c.in-Ok.ensures c.in-Ok-print.ensures.whole c.status.ensures
