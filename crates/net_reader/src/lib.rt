@@ -1,0 +1,13 @@
+//! Reads network documents: JSON, its shape, names, and the rules of networks, up to the first fault.
+#![tactic(auto)]
+
+mod document;
+mod member;
+mod naming;
+mod parts;
+mod reader;
+mod refusal;
+
+pub use member::Member;
+pub use reader::read_net;
+pub use refusal::ReadRefusal;
