@@ -1,0 +1,9 @@
+use Rattle.std.proofs.Common.{◌∙◌, sym}
+use Rattle.clause_encoder.proofs.MarkLemmas.{pushed_more, map_below_none}
+use Rattle.clause_encoder.proofs.marks.ahead_marks.Goals as goal
+
+pub loop-item-preserved : goal.loop-item-preserved
+loop-item-preserved g c = pushed_more _ _ _ _ _ c.loop-item.invariant c.in_ok-push.ensures.items c.is_ahead.ensures
+
+pub loop-item-init : goal.loop-item-init
+loop-item-init g c = c.in_ok-reserve.ensures.items ∙ c.new-new.ensures.items ∙ sym (map_below_none _)

@@ -1,0 +1,7 @@
+use Rattle.std.specs.Prelude.{◌≡◌, map}
+use Rattle.clause_encoder.specs.Ranges.{from_below}
+use Rattle.clause_encoder.specs.Cones.{is_ahead_by}
+use Rattle.clause_encoder.proofs.marks.ahead_marks.Given as goal
+
+abbrev pub invariant-loop-item : goal.invariant-loop-item
+invariant-loop-item g l = l.new.items ≡ map (is_ahead_by (g.M.Moves.table l.table l.inst) l.may_enter l.marks) (from_below 0 l.item)

@@ -1,0 +1,6 @@
+use Rattle.std.specs.Prelude.{◌≡◌, map, false, slice_index_or}
+use Rattle.clause_encoder.specs.Ranges.{from_below}
+use Rattle.clause_encoder.proofs.marks.entry_marks.Given as goal
+
+abbrev pub invariant-loop-item : goal.invariant-loop-item
+invariant-loop-item g l = l.marks.items ≡ map (λ w. slice_index_or (g.M.Moves.table l.table l.inst).entries w false) (from_below 0 l.item)

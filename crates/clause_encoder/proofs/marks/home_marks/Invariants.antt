@@ -1,0 +1,7 @@
+use Rattle.std.specs.Prelude.{◌≡◌, map}
+use Rattle.clause_encoder.specs.Ranges.{from_below}
+use Rattle.clause_encoder.specs.Cones.{leads_home_by}
+use Rattle.clause_encoder.proofs.marks.home_marks.Given as goal
+
+abbrev pub invariant-loop-item : goal.invariant-loop-item
+invariant-loop-item g l = l.new.items ≡ map (leads_home_by (g.M.Moves.table l.table l.inst) l.marks) (from_below 0 l.item)

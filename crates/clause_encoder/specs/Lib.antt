@@ -1,0 +1,16 @@
+pub mod Ranges
+pub mod Cones
+pub mod Numbers
+pub mod RunClauses
+pub mod StopClauses
+pub mod PairClauses
+pub mod BorderClauses
+pub mod WholeList
+pub mod Coding
+pub mod Example
+pub mod RunExample
+pub mod Writing
+pub mod Gathering
+pub mod Values
+pub mod Orders
+pub mod Rows

@@ -1,0 +1,8 @@
+-- What a report is, what it states, and the faults of a text that is none.
+pub mod Lines
+pub mod Readings
+pub mod Places
+pub mod Reports
+pub mod Faults
+pub mod Refutations
+pub mod Gathered

@@ -1,0 +1,56 @@
+-- The refutation of a report, and the answers of its reader.
+use Rattle.std.specs.Prelude.{◌≡◌, ◌≢◌, ◌-◌, ◌<◌, ◌≤◌, ◌++◌, ℕ, List, [], ◌∷◌, All, Some, slice_get, length}
+use Rattle.derivation_log.specs.declared.step.Step.{Step}
+use Rattle.derivation_log.specs.declared.step.Bound.{Bound}
+use Rattle.derivation_log.specs.declared.step.Refutation.{Refutation}
+use Rattle.vss_report.specs.Lines.{ReportLine, step, refutes, text_of, IsSpelled}
+use Rattle.vss_report.specs.Places.{Ends, Leads}
+use Rattle.vss_report.specs.Reports.{IsReport}
+use Rattle.vss_report.specs.Faults.{IsBadLine}
+use Rattle.vss_report.specs.declared.place.Place.{Place}
+use Rattle.vss_report.specs.declared.place.Place.TheVariants.{Start}
+use Rattle.vss_report.specs.declared.fault.ReportFault.{ReportFault}
+use Rattle.vss_report.specs.declared.fault.ReportFault.TheVariants.{BadLine, UnknownName, NoPart, Memory}
+
+-- the steps of the lines
+abbrev pub steps_in : List ReportLine → List Step
+steps_in [] = []
+steps_in (step s ∷ lines) = s ∷ steps_in lines
+steps_in (l ∷ lines) = steps_in lines
+
+-- the n-th line, counted from 1, says what is refuted
+pub record RefutesAt (lines : List ReportLine) (n : ℕ) (bound : Bound) : Type 0 where
+  pub some : 0 < n
+  pub is_there : slice_get lines (n - 1) ≡ Some (refutes bound)
+
+-- no line says that something is refuted
+abbrev pub RefutesNothing : List ReportLine → Type 0
+RefutesNothing lines = (k : ℕ) (bound : Bound) → slice_get lines k ≢ Some (refutes bound)
+
+-- the report states the refutation, from its n-th line on
+pub record States (bytes : List ℕ) (refutation : Refutation) (n : ℕ) : Type 0 where
+  pub report : IsReport bytes
+  pub bound : RefutesAt report.lines n refutation.bound
+  pub steps : refutation.log.steps ≡ steps_in report.lines
+
+-- the report states no refutation
+pub record StatesNone (bytes : List ℕ) : Type 0 where
+  pub report : IsReport bytes
+  pub nothing : RefutesNothing report.lines
+
+-- the text begins as a report does, up to a step of a log
+pub record ReachesStep (bytes : List ℕ) : Type 0 where
+  pub lines : List ReportLine
+  pub left : List ℕ
+  pub at : Place
+  pub leads : Leads Start lines at
+  pub spelled : All IsSpelled lines
+  pub begins : bytes ≡ text_of lines ++ left
+  pub some : 0 < length (steps_in lines)
+
+-- why no refutation is read
+abbrev pub IsFault : List ℕ → ReportFault → Type 0
+IsFault bytes (BadLine n) = IsBadLine bytes n
+IsFault bytes (UnknownName n) = ⊥
+IsFault bytes NoPart = StatesNone bytes
+IsFault bytes Memory = ReachesStep bytes
