@@ -88,6 +88,9 @@ pub fn learn<C: Clauses>(
 
 /// Learns from a false clause. The space was made for the trail's variables, and is as it was; memory is taken for the
 /// result alone. After want of memory nothing has changed.
+///
+/// Linear in the literals of the clauses that it looks at and in the trail of the present level, but for a sort of the
+/// places of the marked literals below that level.
 pub fn learn_with<C: Clauses>(
     space: &mut LearnSpace,
     alloc: Global,
