@@ -1,0 +1,5 @@
+mod hostile;
+mod nets;
+mod rows;
+mod shapes;
+mod texts;
