@@ -1,3 +1,5 @@
+//! Tests of the reader of networks: shapes, rules, names, and hostile texts.
+
 mod hostile;
 mod nets;
 mod rows;

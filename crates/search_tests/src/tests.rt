@@ -1,3 +1,5 @@
+//! Tests of solvers by formulas, written for any solver, and the plain solver on all of them.
+
 mod formulas;
 mod plain;
 mod scenes;
