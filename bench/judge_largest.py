@@ -9,8 +9,9 @@ at full speed, wait, and at last leave at the far end one every fifth step, the 
 the track is nearly always full: the plan touches 187,552 of the 513 * 400 cells that any plan can.
 
 The same call on the same report without its last line, `end`, is timed beside it, in turns: that report is
-read and refused. Printed are medians, of the ratio too. The goal is that judging takes at most twice as long
-as reading.
+read and refused. So is a call on one track of 1,000 cells with an empty report, which only reads the documents
+and cuts them into cells. Printed are medians, of the ratio too. The goals are that judging takes at most twice
+as long as reading, and the last call at most 20 ms.
 """
 
 import argparse
@@ -23,6 +24,7 @@ import tempfile
 import time
 
 CELLS = 513
+MOST_CELLS = 1000
 STEPS = 400
 TRAINS = 32
 LENGTH = 64
@@ -88,10 +90,10 @@ def check(runs):
     return len(taken)
 
 
-def network():
+def network(cells):
     return {
         "nodes": [{"name": "A", "kind": "end"}, {"name": "B", "kind": "end"}],
-        "tracks": [{"name": "t1", "from": "A", "to": "B", "length_m": CELLS * SPACE_STEP_M}],
+        "tracks": [{"name": "t1", "from": "A", "to": "B", "length_m": cells * SPACE_STEP_M, "virtual": cells == CELLS}],
         "sections": [{"name": "s1", "tracks": ["t1"]}],
     }
 
@@ -127,11 +129,11 @@ def report(runs):
     return "".join(line + "\n" for line in lines)
 
 
-def seconds_of(program, folder, name, wanted):
+def seconds_of(program, folder, network, name, wanted):
     """How long the program takes to judge the report; it has to answer as wanted."""
     begin = time.perf_counter()
     call = subprocess.run(
-        [program, "judge", "network.json", "timetable.json", name], cwd=folder, stdout=subprocess.PIPE
+        [program, "judge", network, "timetable.json", name], cwd=folder, stdout=subprocess.PIPE
     )
     took = time.perf_counter() - begin
     said = (call.stdout.decode("latin-1"), call.returncode)
@@ -158,24 +160,28 @@ def main():
 
     with tempfile.TemporaryDirectory() as folder:
         files = {
-            "network.json": json.dumps(network()),
+            "network.json": json.dumps(network(CELLS)),
+            "most_cells.json": json.dumps(network(MOST_CELLS)),
             "timetable.json": json.dumps(timetable(runs)),
             "report.txt": text,
             "without_end.txt": text[: -len("end\n")],
+            "empty.txt": "",
         }
         for name, content in files.items():
             with open(os.path.join(folder, name), "w", newline="") as file:
                 file.write(content)
         calls = [
-            ("report.txt", ("lawful %d\n" % (CELLS - 1), 0)),
-            ("without_end.txt", ("refused report NotYet document 0\n", 3)),
+            ("network.json", "report.txt", ("lawful %d\n" % (CELLS - 1), 0)),
+            ("network.json", "without_end.txt", ("refused report BadLine lines %d\n" % text.count("\n"), 3)),
+            ("most_cells.json", "empty.txt", ("refused report BadLine lines 1\n", 3)),
         ]
-        # The two calls take turns, so that a slow moment of the machine meets them alike.
+        # The calls take turns, so that a slow moment of the machine meets all alike.
         rounds = [[seconds_of(program, folder, *call) for call in calls] for _ in range(options.times)]
-    judged, read = (statistics.median(column) for column in zip(*rounds))
-    ratio = statistics.median(judged / read for judged, read in rounds)
+    judged, read, cut = (statistics.median(column) for column in zip(*rounds))
+    ratio = statistics.median(judged / read for judged, read, _ in rounds)
     print("judged: %.1f ms; read and refused: %.1f ms; ratio %.2f (goal: at most 2)"
           % (judged * 1000, read * 1000, ratio))
+    print("%d cells and an empty report: %.1f ms (goal: at most 20)" % (MOST_CELLS, cut * 1000))
 
 
 if __name__ == "__main__":

@@ -1,8 +1,9 @@
+-- The lemmas and laws of `border_counter`, each file a subject.
 pub mod SumLemmas
 pub mod RangeLemmas
 pub mod AddingLemmas
 pub mod GateLemmas
-pub mod Counting
+pub mod CountingLaws
 pub mod OrderLemmas
-pub mod Extending
+pub mod ExtendingLaws
 pub mod SizeLemmas

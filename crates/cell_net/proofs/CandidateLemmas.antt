@@ -1,5 +1,5 @@
 -- A node joins two cells where the ends at it are of two cells of one section.
-use Rattle.std.proofs.Common.{◌≡◌, ◌≢◌, ◌⊎◌, ℕ, List, Contains, Some, slice_get, get_or, map, refl, sym, subst, ◌∙◌, ap, inl, inr}
+use Rattle.std.proofs.Common.{◌≡◌, ◌⊎◌, ℕ, List, Contains, get_or, refl, sym, subst, ◌∙◌, ap, inl, inr}
 use Rattle.std.proofs.lemmas.List.Elements.{All-contains, Contains-get_or}
 use Rattle.node_groups.specs.Ends.{IsStretchAt, end_at}
 use Rattle.node_groups.specs.Touch.{HasEnd}

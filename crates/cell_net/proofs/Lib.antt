@@ -1,3 +1,4 @@
+-- The lemmas and laws of `cell_net`, each file a subject.
 mod PassageLemmas
 mod RuleLemmas
 mod CandidateLemmas

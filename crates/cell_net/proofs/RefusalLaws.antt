@@ -6,7 +6,7 @@ use Rattle.cell_net.specs.Rules.{IsInstance}
 use Rattle.cell_net.specs.Refusals.{rules_of, rules_of_borders}
 use Rattle.cell_net.specs.Laws.{HasOneLayoutRefusal, HasOneRefusal, RefusesNoInstance, RefusesNoLayout}
 use Rattle.cell_net.specs.declared.ids.CandidateId.{CandidateId}
-use Rattle.cell_net.specs.declared.build.BuildRefusal.TheVariants.{BadSteps, BadCell, BadJoin, BadSection, BadCandidate, BadKept, BadStation, BadTrain, Memory}
+use Rattle.cell_net.specs.declared.build.BuildRefusal.TheVariants.{Memory}
 use Rattle.cell_net.specs.declared.parts.InstanceParts.{InstanceParts}
 
 sound_rules_of : (p : InstanceParts) → AreSound (rules_of p)

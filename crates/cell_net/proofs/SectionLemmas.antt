@@ -1,5 +1,5 @@
 -- Sections are connected where their parts of segments are.
-use Rattle.std.proofs.Common.{◌≡◌, ◌≤◌, ◌↔◌, inl, inr, ℕ, [], map, Option, Some, None, MatchOption, ◌∙◌, ap, arith}
+use Rattle.std.proofs.Common.{◌≤◌, ◌↔◌, inl, inr, ℕ, [], map, Option, Some, None, MatchOption, ◌∙◌, ap, arith}
 use Rattle.std.proofs.lemmas.Bool.{cases_lt}
 use Rattle.vss_lists.specs.Breaks.{FailsFirstAt, HoldsOfEach, HoldsOfNumbers}
 use Rattle.cell_net.specs.Borders.{IsInSection}

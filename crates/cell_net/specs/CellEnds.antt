@@ -1,5 +1,5 @@
 -- The ends of cells in the order of their nodes, which only this crate's code and proofs see.
-use Rattle.std.specs.Prelude.{◌≡◌, ◌≢◌, ◌⊎◌, ℕ, List, All, Contains, map}
+use Rattle.std.specs.Prelude.{◌≡◌, ◌≢◌, ◌⊎◌, List, All, Contains, map}
 use Rattle.node_groups.specs.Ends.{AreEndsOf}
 use Rattle.node_groups.specs.declared.ends.End.{End}
 use Rattle.cell_net.specs.Segments.{segment_of}

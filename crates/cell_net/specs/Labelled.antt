@@ -1,7 +1,6 @@
 -- Names for people: what makes labels those of an instance.
 use Rattle.std.specs.Prelude.{◌≡◌, ◌≢◌, ◌<◌, ℕ, List, length, All, AllPairs}
 use Rattle.vss_names.specs.Names.{IsName}
-use Rattle.cell_net.specs.declared.labels.CellLabel.{CellLabel}
 use Rattle.cell_net.specs.declared.labels.PlaceLabel.{PlaceLabel}
 use Rattle.cell_net.specs.declared.labels.PlaceLabel.TheVariants.{Cut, Joint}
 use Rattle.cell_net.specs.declared.labels.Labels.{Labels}

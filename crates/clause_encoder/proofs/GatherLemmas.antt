@@ -6,9 +6,9 @@ use Rattle.std.proofs.lemmas.List.{map-id, map-append, length-map, get_or-map}
 use Rattle.std.proofs.lemmas.List.Sums.{sum_by_push, sum_by_more_le}
 use Rattle.std.proofs.lemmas.List.FromFn.{map-range_with_len_more, length-range_with_len, get_or-range_with_len, take-map-range_with_len}
 use Rattle.std.proofs.lemmas.List.Elements.{filter-append}
-use Rattle.clause_encoder.specs.Ranges.{from_below}
+use Rattle.clause_list.specs.Ranges.{from_below}
 use Rattle.sweep_table.specs.Tables.{Table}
-use Rattle.clause_encoder.specs.Cones.{ahead, ahead_after, home, marked_by_both, cone_at, cones_of}
+use Rattle.clause_list.specs.Cones.{ahead, ahead_after, home, marked_by_both, cone_at, cones_of}
 use Rattle.clause_encoder.specs.Gathering.{IsGathered}
 
 range_more : (n : ℕ) → from_below 0 (n + 1) ≡ from_below 0 n ++ n ∷ []

@@ -3,8 +3,8 @@ use Rattle.std.proofs.Common.{◌≡◌, ℕ, zero, suc, ◌+◌, ◌-◌, ◌�
 use Rattle.std.proofs.lemmas.List.{take_more, take_all}
 use Rattle.std.proofs.lemmas.List.FromFn.{map-range_with_len_more}
 use Rattle.sweep_table.specs.Tables.{Table}
-use Rattle.clause_encoder.specs.Ranges.{from_below}
-use Rattle.clause_encoder.specs.Cones.{home, home_before}
+use Rattle.clause_list.specs.Ranges.{from_below}
+use Rattle.clause_list.specs.Cones.{home, home_before}
 
 -- the rows of one number more
 rows_more : {X : Type 0} (test : ℕ → X) (n : ℕ) → map test (from_below 0 (n + 1)) ≡ map test (from_below 0 n) ++ test n ∷ []
@@ -20,8 +20,8 @@ unfolding from_below
 map_below_none test = refl
 
 -- a vector of the tests of the numbers so far, and one more
-pub pushed_more : (test : ℕ → Bool) (n : ℕ) (old new : List Bool) (b : Bool) → old ≡ map test (from_below 0 n) → new ≡ old ++ b ∷ [] → b ≡ test n → new ≡ map test (from_below 0 (n + 1))
-pushed_more test n old new b before this same = this ∙ ap (λ xs. xs ++ b ∷ []) before ∙ ap (λ c. map test (from_below 0 n) ++ c ∷ []) same ∙ sym (map_below_more test n)
+pub pushed_more : {X : Type 0} (test : ℕ → X) (n : ℕ) (old new : List X) (b : X) → old ≡ map test (from_below 0 n) → new ≡ old ++ b ∷ [] → b ≡ test n → new ≡ map test (from_below 0 (n + 1))
+pushed_more test n old new b before this same = this ∙ ap (λ xs. xs ++ b ∷ []) before ∙ ap (λ c. map test (from_below 0 n) ++ c ∷ []) same ∙ sym (rows_more test n)
 
 map_take : (bs : List Bool) (n : ℕ) → n ≤ length bs → map (λ w. get_or bs w false) (from_below 0 n) ≡ take n bs
 map_take bs zero within = map_below_none (λ w. get_or bs w false)

@@ -1,8 +1,8 @@
 -- How cones are gathered, step by step.
 use Rattle.std.specs.Prelude.{◌≡◌, ◌<◌, ◌≤◌, ℕ, List, Bool, length, map, sum_by}
 use Rattle.sweep_table.specs.Tables.{Table}
-use Rattle.clause_encoder.specs.Ranges.{from_below}
-use Rattle.clause_encoder.specs.Cones.{ahead, cone_at, cones_of}
+use Rattle.clause_list.specs.Ranges.{from_below}
+use Rattle.clause_list.specs.Cones.{ahead, cone_at, cones_of}
 use Rattle.clause_encoder.specs.declared.gather.GatherFault.{GatherFault}
 use Rattle.clause_encoder.specs.declared.gather.GatherFault.TheVariants.{TooMany, Memory}
 

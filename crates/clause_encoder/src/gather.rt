@@ -1,7 +1,7 @@
 //! The cones of all steps of a train, in one row.
-ghost use Rattle.std.specs.Prelude.{◌≡◌, ◌<◌, ◌≤◌, ◌+◌, ◌-◌, ◌++◌, ◌∷◌, [], map, filter, OnOk, IfOk, IfErr};
-ghost use Rattle.clause_encoder.specs.Ranges.{from_below};
-ghost use Rattle.clause_encoder.specs.Cones.{home, cones_of, marked_by_both, is_marked, is_in_both};
+ghost use Rattle.std.specs.Prelude.{◌≡◌, ◌<◌, ◌≤◌, ◌+◌, ◌-◌, ◌++◌, ◌∷◌, [], map, filter, sum_by, length, OnOk, IfOk, IfErr};
+ghost use Rattle.clause_list.specs.Ranges.{from_below};
+ghost use Rattle.clause_list.specs.Cones.{home, cones_of, marked_by_both, is_marked, is_in_both};
 ghost use Rattle.clause_encoder.specs.Gathering.{IsGatherFault};
 
 use crate::marks::{ahead_marks, entry_marks, homes_of};
@@ -31,6 +31,7 @@ pub fn gather_cones<M: Moves>(
     requires made_for { M.is_made_for table.now inst.now }
     requires few { last < 400 }
     ensures cones { IfOk result (λ c. c ≡ cones_of (M.table table.now inst.now) window last) }
+    ensures few { IfOk result (λ c. sum_by length c ≤ 2000000) }
     ensures err { IfErr result (IsGatherFault (M.table table.now inst.now) window last) }
 {
     let homes = match homes_of(alloc, inst, table, last) {
@@ -58,6 +59,7 @@ fn gather_ahead<M: Moves>(
     requires homes { homes.now ≡ map (home (M.table table.now inst.now)) (from_below 0 (last + 1)) }
     requires few { last < 400 }
     ensures cones { IfOk result (λ c. c ≡ cones_of (M.table table.now inst.now) window last) }
+    ensures few { IfOk result (λ c. sum_by length c ≤ 2000000) }
     ensures err { IfErr result (IsGatherFault (M.table table.now inst.now) window last) }
 {
     let mut marks = first;
@@ -102,7 +104,7 @@ fn marked_items(
 }
 
 // Appends the item, if both mark it.
-#[tactic(auto, unfolding(crate::specs::Cones::is_in_both))]
+#[tactic(auto, unfolding(clause_list::specs::Cones::is_in_both))]
 fn push_if_both(
     one: &[bool],
     other: &[bool],

@@ -1,6 +1,6 @@
 //! The literals of a variable, by its number.
 ghost use Rattle.std.specs.Prelude.{◌≡◌};
-ghost use Rattle.clause_encoder.specs.Numbers.{is as is_lit, is_not as is_not_lit};
+ghost use Rattle.clause_list.specs.Numbers.{is as is_lit, is_not as is_not_lit};
 
 use sat_core::{Lit, Var};
 

@@ -1,8 +1,8 @@
 //! Marks of the items of a table that lie ahead at a step, or lead home from it.
 ghost use Rattle.std.specs.Prelude.{◌≡◌, ◌<◌, ◌+◌, map, IfOk};
 ghost use Rattle.sweep_table.specs.Tables.{Table};
-ghost use Rattle.clause_encoder.specs.Ranges.{from_below};
-ghost use Rattle.clause_encoder.specs.Cones.{home, is_ahead_by, leads_home_by, ahead_after, home_before, has_marked};
+ghost use Rattle.clause_list.specs.Ranges.{from_below};
+ghost use Rattle.clause_list.specs.Cones.{home, is_ahead_by, leads_home_by, ahead_after, home_before, has_marked};
 
 use cell_net::Instance;
 use std::alloc::{AllocError, Global};
@@ -28,7 +28,7 @@ pub fn ahead_marks<M: Moves>(
     Ok(new)
 }
 
-#[tactic(auto, unfolding(crate::specs::Cones::is_ahead_by))]
+#[tactic(auto, unfolding(clause_list::specs::Cones::is_ahead_by))]
 fn is_ahead<M: Moves>(
     inst: &Instance,
     table: &M,
@@ -59,7 +59,7 @@ pub fn home_marks<M: Moves>(
     Ok(new)
 }
 
-#[tactic(auto, unfolding(crate::specs::Cones::leads_home_by))]
+#[tactic(auto, unfolding(clause_list::specs::Cones::leads_home_by))]
 fn is_home<M: Moves>(inst: &Instance, table: &M, marks: &[bool], item: u32) -> bool
     requires { item < M.items table.now }
     ensures { result ≡ leads_home_by (M.table table.now inst.now) marks.now item }

@@ -2,7 +2,7 @@
 ghost use Rattle.std.specs.Prelude.{ℕ, ◌<◌, ◌≤◌, List, OnOk, IfErr, length, slice_index};
 ghost use Rattle.std.specs.List.{flat_map};
 ghost use Rattle.sat_core.specs.declared.literal.Lit.{Lit};
-ghost use Rattle.clause_encoder.specs.Ranges.{from_below};
+ghost use Rattle.clause_list.specs.Ranges.{from_below};
 ghost use Rattle.clause_encoder.specs.Writing.{AreClauses, Takes, IsCause};
 
 use crate::writer::{ClauseWriter, WriteFault};

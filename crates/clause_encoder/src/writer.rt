@@ -1,8 +1,12 @@
 //! The writer: it takes clauses one after another, counts them, and keeps them if asked to.
 ghost use Rattle.std.specs.Prelude.{◌≡◌, ◌+◌, ◌-◌, ◌^◌, ◌<◌, ◌≤◌, ◌++◌, ◌∷◌, [], true, false, length, OnOk, OnErr, IfErr, IfOk};
+ghost use Rattle.std.specs.Prelude.{All, sum_by};
 ghost use Rattle.sat_core.specs.declared.literal.Lit.{Lit};
+ghost use Rattle.sat_core.specs.Clauses.{IsOver};
+ghost use Rattle.border_counter.specs.Counter.{sum_to, counter_clauses};
 ghost use Rattle.clause_encoder.specs.Writing.{AreClauses, Writing, Takes, Adds, IsCause};
 
+use border_counter::{CounterSize, add_counter, counter_size};
 use sat_core::{Formula, Lit};
 use std::alloc::{AllocError, Global};
 use std::marker::Model;
@@ -124,6 +128,30 @@ impl ClauseWriter {
         Ok(())
     }
 
+    /// Takes the clauses of the counter of these inputs, whose variables are the numbers from `first` on.
+    #[tactic(auto, unfolding(crate::specs::Writing::IsCause))]
+    pub fn take_counter(&mut self, inputs: &[Lit], first: u32) -> Result<(), WriteFault>
+        requires inputs { All (IsOver (first - 1)) inputs.now }
+        requires variables { first + sum_to (length inputs.now) ≤ self.old.vars + 1 }
+        requires few { length inputs.now ≤ 512 }
+        ensures ok { OnOk result (Takes self.old (counter_clauses inputs.now first (length inputs.now)) self.new) }
+        ensures err { IfErr result (IsCause self.old (counter_clauses inputs.now first (length inputs.now))) }
+    {
+        let size = counter_size(inputs.len() as u32);
+        if size.clauses > u64::from(self.most - self.count) {
+            return Err(WriteFault::Full);
+        }
+        let count = self.count + size.clauses as u32;
+        let lits = self.lits + size.lits;
+        match keep_counter(&mut self.formula, self.keeps, inputs, first, size) {
+            Ok(()) => {}
+            Err(_) => return Err(WriteFault::Memory),
+        }
+        self.count = count;
+        self.lits = lits;
+        Ok(())
+    }
+
     /// Takes a clause.
     #[tactic(auto, using(crate::proofs::WritingLemmas::takes_one), unfolding(crate::specs::Writing::IsCause))]
     pub fn take(&mut self, lits: &[Lit]) -> Result<(), WriteFault>
@@ -156,4 +184,28 @@ fn keep(formula: &mut Formula, keeps: bool, lits: &[Lit]) -> Result<(), AllocErr
     ensures kept { keeps ≡ true → OnOk result (formula.new.clauses ≡ formula.old.clauses ++ lits.now ∷ []) }
 {
     if keeps { formula.push(lits) } else { Ok(()) }
+}
+
+// Appends the counter's clauses, if the formula is to keep them.
+fn keep_counter(
+    formula: &mut Formula,
+    keeps: bool,
+    inputs: &[Lit],
+    first: u32,
+    size: CounterSize,
+) -> Result<(), AllocError>
+    requires inputs { All (IsOver (first - 1)) inputs.now }
+    requires variables { first + sum_to (length inputs.now) ≤ formula.old.vars + 1 }
+    requires clauses { length (counter_clauses inputs.now first (length inputs.now)) ≡ size.clauses }
+    requires lits { sum_by length (counter_clauses inputs.now first (length inputs.now)) ≡ size.lits }
+    requires numbered { keeps ≡ true → length formula.old.clauses + size.clauses < 2 ^ 32 }
+    ensures vars { formula.new.vars ≡ formula.old.vars }
+    ensures err { OnErr result (formula.new.clauses ≡ formula.old.clauses) }
+    ensures kept { keeps ≡ true → OnOk result (formula.new.clauses ≡ formula.old.clauses ++ counter_clauses inputs.now first (length inputs.now)) }
+{
+    if keeps {
+        formula.reserve(size.clauses as usize, size.lits as usize)?;
+        add_counter(formula, inputs, first)?;
+    }
+    Ok(())
 }

@@ -10,7 +10,8 @@ use Rattle.sat_core.specs.Hints.{NumberedClause, is_known}
 use Rattle.sat_core.specs.Fresh.{IsOpen, IsAtRest, IsUnitUnder, IsClosed, IsFresh}
 use Rattle.search_trail.specs.declared.entry.Entry.{Entry}
 use Rattle.search_trail.specs.Trails.{TrailParts, IsTrail, known_of, up_to}
-use Rattle.search_trail.proofs.TrailLaws.{place_of_known, one_sign, true_is_not_false}
+use Rattle.sat_core.proofs.OpenLaws.{place_of_known, true_is_not_false}
+use Rattle.search_trail.proofs.TrailLaws.{one_sign}
 use Rattle.search_trail.proofs.LevelLaws.{up_to-at, up_to-not, known-from_up_to, unknown_below}
 use Rattle.conflict_learn.specs.Learning.{IsAsserting}
 

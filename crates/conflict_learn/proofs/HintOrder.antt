@@ -14,7 +14,7 @@ use Rattle.sat_core.specs.Hints.{NumberedClause, clause_of, is_same, is_known, n
 use Rattle.sat_core.proofs.LiteralLaws.{is_same-true, is_same-refl, is_known-push, negated-negated}
 use Rattle.search_trail.specs.declared.entry.Entry.{Entry}
 use Rattle.search_trail.specs.Trails.{known_of}
-use Rattle.search_trail.proofs.TrailLaws.{known_at, place_of_known, unknown_variable}
+use Rattle.sat_core.proofs.OpenLaws.{is_known-at, place_of_known, unknown_variable}
 use Rattle.conflict_learn.specs.Working.{IsMarked, Supports, LeadsOn, IsCutFrom, AreMarkedBelow}
 
 abbrev Distinct : List Entry → Type 0
@@ -203,9 +203,9 @@ leads_finish live entries marks cut hints leads = leads (map negated cut) (recor
   allowed = λ k e inside.
       let inside' : k < length cut = omega (arith, length-map cut negated) in
       let is : get_or (map negated cut) k e ≡ negated (get_or cut k e) = get_or-map negated cut k e e inside' in
-      inr (ap (λ l. is_known cut (negated l)) is ∙ (ap (is_known cut) (negated-negated (get_or cut k e)) ∙ known_at cut k e inside'));
+      inr (ap (λ l. is_known cut (negated l)) is ∙ (ap (is_known cut) (negated-negated (get_or cut k e)) ∙ is_known-at cut k e inside'));
   cut_false = λ k e inside.
       let is : get_or (map negated cut) k e ≡ negated (get_or cut k e) = get_or-map negated cut k e e inside in
-      ap (is_known (map negated cut)) (sym is) ∙ known_at (map negated cut) k e (omega (arith, length-map cut negated));
+      ap (is_known (map negated cut)) (sym is) ∙ is_known-at (map negated cut) k e (omega (arith, length-map cut negated));
   marked_true = λ k e below marked. absurd (omega arith);
 })

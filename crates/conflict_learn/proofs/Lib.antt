@@ -1,3 +1,4 @@
+-- The lemmas and laws of `conflict_learn`, each file a subject.
 pub mod FormulaLemmas
 pub mod FreshLaws
 pub mod HintOrder

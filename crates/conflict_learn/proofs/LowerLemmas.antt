@@ -14,7 +14,7 @@ use Rattle.sat_core.specs.Clauses.{negated}
 use Rattle.sat_core.specs.Hints.{NumberedClause}
 use Rattle.search_trail.specs.declared.entry.Entry.{Entry}
 use Rattle.search_trail.specs.Trails.{TrailParts, IsTrail}
-use Rattle.search_trail.proofs.TrailLaws.{true_is_not_false}
+use Rattle.sat_core.proofs.OpenLaws.{true_is_not_false}
 use Rattle.search_trail.proofs.ReasonLaws.{apart-eqb}
 use Rattle.conflict_learn.specs.Marks.{AreAmong}
 use Rattle.conflict_learn.specs.Working.{IsMarked, IsWorking, IsPlace, IsListed, IsTouchedAt, IsImplied, MarksOf, pending}

@@ -5,7 +5,7 @@ use Rattle.std.proofs.lemmas.List.{length-set, get_or-set_same, get_or-set_other
 use Rattle.std.proofs.lemmas.List.Elements.{All-push, All-nil}
 use Rattle.std.proofs.lemmas.List.Quantifiers.{all_pairs_push, Any-push}
 use Rattle.sat_core.specs.declared.literal.Var.{Var}
-use Rattle.search_trail.proofs.TrailLaws.{distinct_below, true_is_not_false}
+use Rattle.sat_core.proofs.OpenLaws.{distinct_below, true_is_not_false}
 use Rattle.conflict_learn.specs.Marks.{AreAmong, IsTouched}
 
 pub none_marked : (n k : ℕ) → get_or (replicate n false) k false ≡ false

@@ -15,7 +15,7 @@ use Rattle.sat_core.proofs.LiteralLaws.{negated-negated, is_same-true, is_same-r
 use Rattle.search_trail.specs.declared.entry.Entry.{Entry}
 use Rattle.search_trail.specs.Trails.{TrailParts, IsTrail, known_of, up_to}
 use Rattle.search_trail.specs.Reasons.{IsReason, ReasonFits, AreReasons}
-use Rattle.search_trail.proofs.TrailLaws.{place_of_known, distinct_below}
+use Rattle.sat_core.proofs.OpenLaws.{place_of_known, distinct_below}
 use Rattle.conflict_learn.specs.Learning.{IsLearnedFrom, IsConflict}
 use Rattle.conflict_learn.specs.Working.{IsMarked, LeadsOn, IsCutFrom, AreMarkedBelow, is_pending, pending, IsWorking, StandsBelow, MarksOf, IsKeptBack, IsResolved, IsPlace, IsAssigned}
 use Rattle.conflict_learn.proofs.HintOrder.{leads_resolve, leads_keep, leads_pass, leads_start, leads_finish, front_has}

@@ -1,3 +1,4 @@
+-- The lemmas and laws of `derivation_log`, each file a subject.
 pub mod ListLemmas
 pub mod NumberLemmas
 pub mod WriteLemmas

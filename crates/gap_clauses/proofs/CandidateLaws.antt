@@ -1,15 +1,14 @@
 -- A walk has a border among its nodes exactly where it has one among its candidates.
-use Rattle.std.proofs.Common.{◌≡◌, ◌<◌, ℕ, zero, suc, List, [], ◌∷◌, length, get_or, refl, sym, ap, ◌∙◌, subst, arith}
-use Rattle.std.specs.Prelude.{All, Any, Contains, ◌↔◌, Some, slice_get}
+use Rattle.std.proofs.Common.{List, [], ◌∷◌, get_or, subst, arith}
+use Rattle.std.specs.Prelude.{All, Any, Contains}
 use Rattle.std.specs.List.{AllZip}
 use Rattle.std.proofs.lemmas.List.Elements.{All-cons, All-head, All-tail, Contains-get_or}
-use Rattle.cell_net.specs.Borders.{IsBorder, Linked}
+use Rattle.cell_net.specs.Borders.{IsBorder}
 use Rattle.cell_net.specs.declared.ids.CandidateId.{CandidateId}
-use Rattle.cell_net.specs.declared.ids.CellId.{CellId}
 use Rattle.cell_net.specs.declared.parts.InstanceParts.{InstanceParts}
-use Rattle.gap_clauses.specs.Gaps.{AreCandidatesOf, AreGaps, AreOfOneSection, walks_of}
+use Rattle.gap_clauses.specs.Gaps.{AreCandidatesOf, AreGaps, walks_of}
 use Rattle.gap_clauses.specs.Laws.{CandidatesSeparate, HasBorder, IsCut}
-use Rattle.gap_clauses.specs.Walks.{Step, IsWalk}
+use Rattle.gap_clauses.specs.Walks.{Step}
 use Rattle.gap_clauses.proofs.Shortening.{cut_separates}
 
 module _ (p : InstanceParts) (borders : List CandidateId) where

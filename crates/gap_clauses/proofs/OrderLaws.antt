@@ -1,10 +1,10 @@
 -- The order of walks is strict, so what lists each walk once in order is one list.
-use Rattle.std.proofs.Common.{◌≡◌, ◌≢◌, ◌<◌, ◌⊎◌, inl, inr, ℕ, zero, suc, List, [], ◌∷◌, length, refl, sym, ap, ◌∙◌, subst, arith}
+use Rattle.std.proofs.Common.{◌≡◌, ◌<◌, inl, inr, ℕ, zero, suc, List, [], ◌∷◌, refl, sym, subst, arith}
 use Rattle.std.specs.Prelude.{AllPairs, Contains, ◌↔◌}
 use Rattle.vss_rows.proofs.JoinedLaws.{AllPairs-tail, AllPairs-head}
 use Rattle.cell_net.specs.declared.ids.CellId.{CellId}
 use Rattle.cell_net.specs.declared.parts.InstanceParts.{InstanceParts}
-use Rattle.gap_clauses.specs.Walks.{Step, IsLess, IsBefore, AreWalks, node_numbers, cell_numbers}
+use Rattle.gap_clauses.specs.Walks.{Step, IsLess, IsBefore, node_numbers}
 use Rattle.gap_clauses.specs.Laws.{AreListedOnce}
 
 pub not_less_itself : (xs : List ℕ) → ¬ IsLess xs xs

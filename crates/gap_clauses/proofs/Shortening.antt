@@ -1,8 +1,8 @@
 -- Any list of cells that links two cells shortens to a walk.
-use Rattle.std.proofs.Common.{◌≡◌, ◌≢◌, ◌<◌, ◌⊎◌, inl, inr, ℕ, zero, suc, Bool, true, false, List, [], ◌∷◌, length, map, get_or, refl, sym, ap, ◌∙◌, subst, arith}
+use Rattle.std.proofs.Common.{◌≡◌, ◌≢◌, ◌<◌, ◌⊎◌, inl, inr, ℕ, zero, suc, Bool, true, false, List, [], ◌∷◌, refl, sym, ap, ◌∙◌, subst, arith}
 use Rattle.std.specs.Prelude.{All, AllPairs, Any, Contains, ◌↔◌, Option, Some, None, slice_get, nat_eq}
 use Rattle.std.specs.List.{list_any}
-use Rattle.std.proofs.lemmas.Bool.{cases_Bool, cases_eq, eqb-true, eq-eqb, false≢true}
+use Rattle.std.proofs.lemmas.Bool.{cases_Bool, eqb-true, eq-eqb, false≢true}
 use Rattle.std.proofs.lemmas.List.{get_or_default}
 use Rattle.std.proofs.lemmas.List.Elements.{All-cons, All-head, All-tail}
 use Rattle.std.proofs.lemmas.List.Folds.{Any-from_list_any, list_any-from_Any}
@@ -10,7 +10,7 @@ use Rattle.std.proofs.lemmas.List.Kept.{AllPairs-cons}
 use Rattle.std.proofs.lemmas.Option.{same_Some, none-some}
 use Rattle.vss_rows.proofs.JoinedLaws.{AllPairs-tail, AllPairs-head}
 use Rattle.node_groups.specs.Reach.{Reaches, LeadsTo}
-use Rattle.cell_net.specs.Borders.{IsAtEnd, IsBorder, IsInSection, Linked, Meet}
+use Rattle.cell_net.specs.Borders.{IsAtEnd, IsBorder, IsInSection, Meet}
 use Rattle.cell_net.specs.declared.ids.CellId.{CellId}
 use Rattle.cell_net.specs.declared.ids.NodeId.{NodeId}
 use Rattle.cell_net.specs.declared.ids.SectionId.{SectionId}
@@ -84,7 +84,7 @@ walk_more p e s steps f shares new_cell new_node walk = record {
 }
 
 -- two cells that share a node are of one section
-same_section : (p : InstanceParts) (e : CellId) (n : NodeId) (f : CellId) (k : ℕ) → Shares p e n f → IsInSection p k e → IsInSection p k f
+pub same_section : (p : InstanceParts) (e : CellId) (n : NodeId) (f : CellId) (k : ℕ) → Shares p e n f → IsInSection p k e → IsInSection p k f
 same_section p e n f k shares here = record {
   cell = shares.other;
   is = shares.is_other;

@@ -1,11 +1,11 @@
 -- Gaps: for each two cells of a section the candidates on each walk from the one to the other.
-use Rattle.std.specs.Prelude.{◌≡◌, ◌<◌, ◌↔◌, ℕ, List, [], length, All, AllPairs, Any, Some, slice_get, slice_index_or, Contains}
+use Rattle.std.specs.Prelude.{◌≡◌, ◌<◌, ◌↔◌, ℕ, List, [], AllPairs, Any, Some, slice_get, slice_index_or, Contains}
 use Rattle.std.specs.List.{AllZip}
 use Rattle.cell_net.specs.Borders.{IsInSection}
 use Rattle.cell_net.specs.declared.ids.CandidateId.{CandidateId}
 use Rattle.cell_net.specs.declared.ids.CellId.{CellId}
 use Rattle.cell_net.specs.declared.parts.InstanceParts.{InstanceParts}
-use Rattle.gap_clauses.specs.Walks.{Step, IsWalk, IsBefore, AreWalks}
+use Rattle.gap_clauses.specs.Walks.{Step, AreWalks}
 
 -- the candidates of each walk from e to f, in lists by first cell and by last cell
 abbrev pub walks_of : List (List (List (List CandidateId))) → CellId → CellId → List (List CandidateId)

@@ -1,7 +1,5 @@
 -- How walks from one cell are kept: each as one step behind the walk that it lengthens.
-use Rattle.std.specs.Prelude.{◌≡◌, ◌<◌, ◌≤◌, ◌+◌, ℕ, suc, List, [], ◌∷◌, ◌++◌, length, All, slice_index_or}
-use Rattle.cell_net.specs.declared.ids.CellId.{CellId}
-use Rattle.cell_net.specs.declared.ids.NodeId.{NodeId}
+use Rattle.std.specs.Prelude.{◌<◌, ◌≤◌, ℕ, List, [], ◌∷◌, ◌++◌, length, slice_index_or}
 use Rattle.gap_clauses.specs.Walks.{Step}
 use Rattle.gap_clauses.specs.declared.tree.Branch.{Branch}
 

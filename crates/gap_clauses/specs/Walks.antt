@@ -1,5 +1,5 @@
 -- Walks: the ways from one cell of a section to another over shared nodes.
-use Rattle.std.specs.Prelude.{◌≡◌, ◌≢◌, ◌<◌, ◌⊎◌, ◌↔◌, ℕ, List, [], ◌∷◌, length, map, All, AllPairs, Any, Some, slice_get, Contains}
+use Rattle.std.specs.Prelude.{◌≡◌, ◌≢◌, ◌<◌, ◌⊎◌, ◌↔◌, ℕ, List, [], ◌∷◌, map, AllPairs, Some, slice_get, Contains}
 use Rattle.cell_net.specs.Borders.{IsAtEnd}
 use Rattle.cell_net.specs.declared.ids.CellId.{CellId}
 use Rattle.cell_net.specs.declared.ids.NodeId.{NodeId}
@@ -33,11 +33,20 @@ abbrev pub Leads : InstanceParts → CellId → List Step → CellId → Type 0
 Leads p e [] f = e ≡ f
 Leads p e (s ∷ steps) f = Shares p e s.node s.cell × Leads p s.cell steps f
 
+-- the cell to which steps from e lead
+abbrev pub end_of : CellId → List Step → CellId
+end_of e [] = e
+end_of e (s ∷ steps) = end_of s.cell steps
+
 -- the steps walk from e to f: they lead there, with no cell twice and no node twice
 pub record IsWalk (p : InstanceParts) (e : CellId) (steps : List Step) (f : CellId) : Type 0 where
   pub leads : Leads p e steps f
   pub no_cell_twice : AllPairs ◌≢◌ (e ∷ cells_of steps)
   pub no_node_twice : AllPairs ◌≢◌ (nodes_of steps)
+
+-- the steps walk from e to some cell
+abbrev pub IsWalkFrom : InstanceParts → CellId → List Step → Type 0
+IsWalkFrom p e steps = IsWalk p e steps (end_of e steps)
 
 -- the one list comes before the other, number by number; where one begins the other, the shorter
 abbrev pub IsLess : List ℕ → List ℕ → Type 0

@@ -2,8 +2,16 @@
 //! on each.
 #![tactic(auto)]
 
+mod build;
+mod fan;
+mod gaps;
 mod laws;
+mod marks;
+mod neighbours;
+mod refusal;
+mod search;
 mod tree;
 
+pub use gaps::Gaps;
 pub use laws::{separated_where_candidates_cut, separated_where_cut, walks_are_unique};
-pub use tree::{Branch, WalkTree};
+pub use refusal::GapRefusal;

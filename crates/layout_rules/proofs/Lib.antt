@@ -1,2 +1,3 @@
+-- The lemmas and laws of `layout_rules`, each file a subject.
 mod SeenCells
 mod ClassLemmas

@@ -1,3 +1,4 @@
+-- The lemmas and laws of `log_checker`, each file a subject.
 mod AssignedLemmas
 mod DropLemmas
 mod DroppedLemmas
@@ -5,6 +6,5 @@ mod EndLemmas
 mod HintLemmas
 mod LiveLemmas
 mod NumberLemmas
-mod OpenLemmas
 mod StoreLemmas
 mod VerdictLemmas

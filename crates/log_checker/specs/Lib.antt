@@ -1,3 +1,4 @@
+-- What the contracts of `log_checker` cite, each file a subject.
 pub mod Assigned
 pub mod Drops
 pub mod Readings

@@ -5,7 +5,7 @@ ghost use Rattle.sat_core.specs.declared.literal.Lit.{Lit};
 ghost use Rattle.sat_core.specs.Clauses.{negated, IsOver};
 ghost use Rattle.sat_core.specs.Hints.{is_known as is_known_of};
 ghost use Rattle.sat_core.specs.Fresh.{IsOpen};
-ghost use Rattle.log_checker.specs.Assigned.{mark_place, AreMarked};
+ghost use Rattle.sat_core.specs.Marks.{mark_place, AreMarked};
 
 use sat_core::Lit;
 use std::alloc::{AllocError, Global};
@@ -47,7 +47,7 @@ impl Assignment {
         requires { IsOver self.now.vars lit }
         ensures { result ≡ is_known_of self.now.lits lit }
     {
-        self.marks[mark_of(lit)]
+        self.marks[lit.place()]
     }
 
     /// Whether the literal or its negation is known.
@@ -66,7 +66,7 @@ impl Assignment {
         ensures known { self.new.lits ≡ self.old.lits ++ lit ∷ [] }
     {
         self.trail.push_reserved(lit);
-        self.marks[mark_of(lit)] = true;
+        self.marks[lit.place()] = true;
     }
 
     /// Forgets all literals, in time linear in them.
@@ -79,20 +79,12 @@ impl Assignment {
     }
 }
 
-/// The place of the literal's mark.
-fn mark_of(lit: Lit) -> usize
-    requires { 1 ≤ lit.var.0 }
-    ensures { result ≡ mark_place lit }
-{
-    2 * (lit.var.0 as usize - 1) + usize::from(lit.positive)
-}
-
 /// Clears the marks of these literals. `vars` stands in the contract alone.
 fn unmark(vars: u32, marks: &mut [bool], trail: &[Lit])
     requires { AreMarked vars marks.old trail.now }
     ensures { (lit : Lit) → IsOver vars lit → slice_index_or marks.new (mark_place lit) false ≡ false }
 {
     for lit in trail {
-        marks[mark_of(*lit)] = false;
+        marks[lit.place()] = false;
     }
 }

@@ -1,1 +1,3 @@
+-- The lemmas and laws of `net_reader`, each file a subject.
 pub mod ReadLemmas
+pub mod ReadingLaws

@@ -1,11 +1,8 @@
 -- What a document's parts keep before the rules of networks are tested.
-use Rattle.std.proofs.Common.{◌≡◌, ◌<◌, ℕ, zero, suc, List, [], ◌∷◌, length, map, get_or, Some, None, slice_get, refl, sym, ap, subst, ◌∙◌, arith}
+use Rattle.std.proofs.Common.{◌<◌, ℕ, List, [], ◌∷◌, length, map, get_or, sym, subst, arith}
 use Rattle.std.specs.List.{All}
 use Rattle.std.proofs.lemmas.List.{length-map, get_or-map}
 use Rattle.std.proofs.lemmas.Option.{slice_get-get_or}
-use Rattle.serde_json.proofs.OnLiterals.{serde_json_on_literals}
-use Rattle.serde_json.specs.Read.{read}
-use Rattle.vss_json.specs.Values.{Json, IsJson}
 use Rattle.vss_lists.specs.Breaks.{HoldsOfEach}
 use Rattle.vss_lists.specs.Orders.{AreKept}
 use Rattle.vss_names.specs.Names.{IsName}
@@ -14,25 +11,8 @@ use Rattle.rail_net.specs.declared.parts.GroupPart.{GroupPart}
 use Rattle.rail_net.specs.declared.parts.NetParts.{NetParts}
 use Rattle.rail_net.specs.declared.parts.NodePart.{NodePart}
 use Rattle.rail_net.specs.declared.parts.TrackPart.{TrackPart}
-use Rattle.net_reader.specs.Document.{ListsSome}
-use Rattle.net_reader.specs.Readings.{naming_rules, States}
-
--- no bytes are no JSON
-nothing_read : (d : Json) → ¬ (read [] ≡ Some d)
-unfolding serde_json_on_literals
-nothing_read d e = absurd (grind arith)
-
-pub no_json : (bytes : List ℕ) (d : Json) → length bytes ≡ 0 → ¬ IsJson bytes d
-no_json [] d none json = nothing_read d json.reads
-no_json (b ∷ bytes) d none json = absurd (omega arith)
-
-some_bytes : (bytes : List ℕ) (d : Json) → read bytes ≡ Some d → 0 < length bytes
-some_bytes [] d e = absurd (nothing_read d e)
-some_bytes (b ∷ bytes) d e = omega arith
-
--- a document's bytes are not none
-pub some_stated : (bytes : List ℕ) (p : NetParts) → States bytes p → 0 < length bytes
-some_stated bytes p states = some_bytes bytes states.value states.is_json.reads
+use Rattle.net_reader.specs.Document.{HasListed}
+use Rattle.net_reader.specs.Readings.{naming_rules}
 
 all_named : {X : Type 0} (f : X → List ℕ) (xs : List X) → HoldsOfEach (λ place x. IsName (f x)) xs → All IsName (map f xs)
 all_named f [] each k d within = absurd (omega arith)
@@ -41,12 +21,12 @@ all_named {X} f (x ∷ xs) each k d within =
     subst IsName (sym (get_or-map f (x ∷ xs) k x d low)) (each.at_each k (get_or (x ∷ xs) k x) (slice_get-get_or (x ∷ xs) k x low))
 
 -- names are names, and sections and stations list tracks
-pub are_named : (p : NetParts) → AreKept (naming_rules p) → All ListsSome p.sections → All ListsSome p.stations → AreNamed p
-are_named p kept sections stations = record {
+pub are_named : (p : NetParts) → AreKept (naming_rules p) → HasListed p → AreNamed p
+are_named p kept listed = record {
   nodes = all_named (λ (n : NodePart). n.name) p.nodes kept.0;
   tracks = all_named (λ (t : TrackPart). t.name) p.tracks kept.1.0;
   sections = all_named (λ (g : GroupPart). g.name) p.sections kept.1.1.0;
   stations = all_named (λ (g : GroupPart). g.name) p.stations kept.1.1.1.0;
-  section_tracks = λ k d within. (sections k d within).some;
-  station_tracks = λ k d within. (stations k d within).some;
+  section_tracks = λ k d within. (listed.sections k d within).some;
+  station_tracks = λ k d within. (listed.stations k d within).some;
 }

@@ -1,8 +1,9 @@
 -- Network documents: what their values are read as, member by member.
-use Rattle.std.specs.Prelude.{◌≡◌, ◌<◌, ◌^◌, ℕ, List, length, Option, unwrap_or, is_some, true, if◌then◌else◌, Result, Ok, Err, codes, bytes_eq}
+use Rattle.std.specs.Prelude.{◌<◌, ◌^◌, ℕ, List, All, length, unwrap_or, is_some, true, if◌then◌else◌, Ok, Err, codes, bytes_eq}
 use Rattle.vss_json.specs.Values.{Json, member}
 use Rattle.vss_json.specs.Readings.{Reading, ◌>>=◌, object, text, number, optional_number, optional_flag, texts, pairs, list, optional_list}
 use Rattle.vss_json.specs.declared.fault.ShapeFault.{ShapeFault}
+use Rattle.rail_net.specs.Parts.{HasFewItems}
 use Rattle.rail_net.specs.declared.parts.NodeKind.{NodeKind}
 use Rattle.rail_net.specs.declared.parts.NodeKind.TheVariants as kind
 use Rattle.rail_net.specs.declared.parts.NodePart.{NodePart}
@@ -85,3 +86,9 @@ document d = do
 pub record ListsSome (g : GroupPart) : Type 0 where
   pub some : 0 < length g.tracks
   pub few : length g.tracks < 2 ^ 32
+
+-- sections and stations list tracks, and each list has fewer than 4,294,967,296 items
+pub record HasListed (p : NetParts) : Type 0 where
+  pub sections : All ListsSome p.sections
+  pub stations : All ListsSome p.stations
+  pub few : HasFewItems p

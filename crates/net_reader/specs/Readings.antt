@@ -1,6 +1,6 @@
 -- What a reading of a network document answers.
-use Rattle.std.specs.Prelude.{◌≡◌, ◌<◌, ℕ, List, [], ◌∷◌, length, Result, Ok, Err}
-use Rattle.vss_json.specs.Values.{Json, IsJson}
+use Rattle.std.specs.Prelude.{◌<◌, ℕ, List, [], ◌∷◌, length, Result, Ok, Err}
+use Rattle.vss_json.specs.Documents.{IsNoJson, Misses, States}
 use Rattle.vss_lists.specs.Orders.{OrderRule, AreKept, IsFirstBroken, rule_of_each}
 use Rattle.vss_names.specs.Names.{IsName}
 use Rattle.rail_net.specs.Refusals.{IsNet, net_rules}
@@ -12,12 +12,6 @@ use Rattle.rail_net.specs.declared.refusal.Spot.{Spot}
 use Rattle.net_reader.specs.Document.{at, document}
 use Rattle.net_reader.specs.declared.refusal.ReadRefusal.{ReadRefusal}
 use Rattle.net_reader.specs.declared.refusal.ReadRefusal.TheVariants.{NotJson, Shape, BadName, Net, Memory}
-
--- the bytes are the document of these parts
-pub record States (bytes : List ℕ) (parts : NetParts) : Type 0 where
-  pub value : Json
-  pub is_json : IsJson bytes value
-  pub reads : document value ≡ Ok parts
 
 -- the item of that list
 abbrev pub in_list : ListKind → ℕ → Spot
@@ -35,18 +29,11 @@ naming_rules p =
 -- bytes are JSON, the value has the document's shape, names are names, the parts keep the rules of
 -- networks. Want of memory may come at any bytes but none
 abbrev pub IsReading : List ℕ → Result NetParts ReadRefusal → Type 0
-IsReading bytes (Ok parts) = States bytes parts × IsNet parts
-IsReading bytes (Err NotJson) = (value : Json) → ¬ IsJson bytes value
-IsReading bytes (Err (Shape member item)) = (value : Json) × IsJson bytes value × (document value ≡ Err (at member item))
-IsReading bytes (Err (BadName spot)) = (parts : NetParts) × States bytes parts × IsFirstBroken (naming_rules parts) spot
+IsReading bytes (Ok parts) = States document bytes parts × IsNet parts
+IsReading bytes (Err NotJson) = IsNoJson bytes
+IsReading bytes (Err (Shape member item)) = Misses document bytes (at member item)
+IsReading bytes (Err (BadName spot)) =
+    (parts : NetParts) × States document bytes parts × IsFirstBroken (naming_rules parts) spot
 IsReading bytes (Err (Net kind spot)) =
-    (parts : NetParts) × States bytes parts × AreKept (naming_rules parts) × IsFirstBroken (net_rules parts) (Named kind spot)
+    (parts : NetParts) × States document bytes parts × AreKept (naming_rules parts) × IsFirstBroken (net_rules parts) (Named kind spot)
 IsReading bytes (Err Memory) = 0 < length bytes
-
--- why a document's parts can't be told
-abbrev pub IsUnread : List ℕ → ReadRefusal → Type 0
-IsUnread bytes NotJson = (value : Json) → ¬ IsJson bytes value
-IsUnread bytes (Shape member item) = (value : Json) × IsJson bytes value × (document value ≡ Err (at member item))
-IsUnread bytes (BadName spot) = ⊥
-IsUnread bytes (Net kind spot) = ⊥
-IsUnread bytes Memory = 0 < length bytes

@@ -1,25 +1,36 @@
 //! The parts of a document.
 
-ghost use Rattle.std.specs.Prelude.{IfOk, All};
+ghost use Rattle.std.specs.Prelude.{IfOk};
 ghost use Rattle.vss_json.specs.Values.{json_of};
 ghost use Rattle.vss_json.specs.Readings.{Gives};
-ghost use Rattle.net_reader.specs.Document.{ListsSome, document};
-ghost use Rattle.rail_net.specs.Parts.{HasFewItems};
+ghost use Rattle.net_reader.specs.Document.{HasListed, document};
 
 use crate::member::Member;
 use crate::parts::{Borders, Nodes, Sections, Stations, Tracks, Walk, at};
 use rail_net::NetParts;
 use std::alloc::Global;
-use vss_json::{Json, list, object, optional_list};
+use vss_json::{Json, Reader, list, object, optional_list};
+
+/// Reads the parts of a network.
+#[derive(Clone, Copy)]
+pub(crate) struct Network;
+
+impl Reader<NetParts, Member> for Network {
+    ghost reading = { λ r item. document };
+
+    ghost keeps = { λ r. HasListed };
+
+    fn read(&self, alloc: Global, value: &Json, _item: u32) -> Walk<NetParts> {
+        parts_of(alloc, value)
+    }
+}
 
 /// The parts that the value states, or its first fault of shape. Linear in the value but for look-ups
 /// of members.
 #[tactic(auto, unfolding(crate::specs::Document::document))]
-pub(crate) fn parts_of(alloc: Global, value: &Json) -> Walk<NetParts>
+fn parts_of(alloc: Global, value: &Json) -> Walk<NetParts>
     ensures read { Gives (document (json_of value.now)) result }
-    ensures sections { IfOk result (λ parts. All ListsSome parts.sections) }
-    ensures stations { IfOk result (λ parts. All ListsSome parts.stations) }
-    ensures few { IfOk result HasFewItems }
+    ensures listed { IfOk result HasListed }
 {
     object(value, at(Member::Document, 0))?;
     let nodes = list(alloc, &Nodes, value, "nodes", at(Member::Nodes, 0))?;

@@ -1,3 +1,4 @@
+-- The lemmas and laws of `node_groups`, each file a subject.
 pub mod ReachLaws
 pub mod TouchLaws
 mod ForestLaws

@@ -1,3 +1,4 @@
+-- What the contracts of `node_groups` cite, each file a subject.
 pub mod Reach
 pub mod Touch
 pub mod Forest

@@ -13,7 +13,8 @@ use Rattle.sat_core.specs.Hints.{is_known}
 use Rattle.sat_core.specs.Fresh.{IsOpen, IsAtRest}
 use Rattle.sat_core.specs.Search.{Event, gives, derives, units_of}
 use Rattle.search_trail.specs.Trails.{TrailParts, IsTrail, known_of, decided}
-use Rattle.search_trail.proofs.TrailLaws.{same_variable, true_is_not_false, one_sign, IsTrail-push, now_low}
+use Rattle.sat_core.proofs.OpenLaws.{one_variable, true_is_not_false}
+use Rattle.search_trail.proofs.TrailLaws.{one_sign, IsTrail-push, now_low}
 use Rattle.solver_face.specs.Solving.{IsAnswer}
 use Rattle.solver_face.specs.declared.answer.Answer.TheVariants as answer
 use Rattle.plain_solver.specs.declared.state.State.{State}
@@ -35,7 +36,7 @@ told_none known lit low high = absurd (omega arith)
 pub told_more : (known : List Lit) (place : ℕ) (lit : Lit) → lit.var.0 ≡ place + 1 → IsTold known lit → AreToldTo known place → AreToldTo known (place + 1)
 told_more known place lit variable told before other low high = elim (cases_eq other.var.0 (place + 1)) [
   | inr apart ↦ before other low (omega arith)
-  | inl here ↦ elim (same_variable other lit (here ∙ sym variable)) [
+  | inl here ↦ elim (one_variable other lit (here ∙ sym variable)) [
     | inl same ↦ subst (IsTold known) (sym same) told
     | inr turned ↦ elim told [
       | inl is ↦ inr (ap (is_known known) (ap negated turned ∙ Rattle.sat_core.proofs.LiteralLaws.negated-negated lit) ∙ is)

@@ -1,3 +1,4 @@
+-- The lemmas and laws of `plain_solver`, each file a subject.
 pub mod FullLemmas
 pub mod PassLemmas
 pub mod PlainLemmas

@@ -12,7 +12,8 @@ use Rattle.sat_core.specs.Fresh.{IsOpen, IsAtRest, IsClosed}
 use Rattle.search_trail.specs.declared.entry.Entry.{Entry}
 use Rattle.search_trail.specs.Trails.{TrailParts, IsTrail, IsCut, known_of, up_to, assigned, decided}
 use Rattle.search_trail.specs.Reasons.{IsReason}
-use Rattle.search_trail.proofs.TrailLaws.{IsTrail-push, now_low, known_at, one_sign}
+use Rattle.sat_core.proofs.OpenLaws.{is_known-at}
+use Rattle.search_trail.proofs.TrailLaws.{IsTrail-push, now_low, one_sign}
 use Rattle.search_trail.proofs.LevelLaws.{up_to-not, known-from_up_to, up_to-above, up_to-same, all_up_to}
 use Rattle.search_trail.proofs.ReasonLaws.{AreReasons-push, AreReasons-cut, AreReasons-grow}
 use Rattle.conflict_learn.specs.Learning.{IsAsserting}
@@ -77,6 +78,6 @@ pub closed_at : (clauses : List (List Lit)) (t : TrailParts) (level : ℕ) → l
 closed_at clauses t level below plain = record {
   one_sign = λ k d within.
       let lit : Lit = get_or (up_to level t.entries) k d in
-      up_to-not level t.entries (negated lit) (one_sign t plain.laws lit (known-from_up_to level t.entries lit (known_at (up_to level t.entries) k d within)));
+      up_to-not level t.entries (negated lit) (one_sign t plain.laws lit (known-from_up_to level t.entries lit (is_known-at (up_to level t.entries) k d within)));
   at_rest = numbered_all (IsAtRest (up_to level t.entries)) 1 clauses (plain.closed_below level below);
 }

@@ -9,7 +9,7 @@ use Rattle.cell_net.specs.declared.plans.Sweep.{Sweep}
 use Rattle.cell_net.specs.declared.trains.TrainSpec.{TrainSpec}
 use Rattle.layout_rules.specs.Classes.{AreClasses}
 use Rattle.plan_checker.specs.Clashes.{IsFirstClash}
-use Rattle.plan_checker.specs.ClashSearch.{AreAllApart, AreApart, IsApartFromLater, IsClash, IsFirstClashAt, IsFirstClashOf, IsSound, Touches}
+use Rattle.plan_checker.specs.ClashSearch.{AreAllApart, AreTrainsApart, IsApartFromLater, IsClash, IsFirstClashAt, IsFirstClashOf, IsSound, Touches}
 use Rattle.plan_checker.specs.declared.clash.Clash.{Clash}
 use Rattle.plan_checker.specs.declared.traffic.Traffic.{Traffic}
 use Rattle.plan_checker.proofs.ListSteps.{zipped_lengths, zipped_with}
@@ -21,7 +21,7 @@ no_train t train step past w has =
     let within : train < length t.runs.now = slice_get_within t.runs.now train has.run has.is_run in omega arith
 
 pub apart_from_later : (t : Traffic) (step a n : ℕ) → length t.runs.now ≤ n →
-    ((y : ℕ) → a < y → y < n → AreApart t step a y) → IsApartFromLater t step a
+    ((y : ℕ) → a < y → y < n → AreTrainsApart t step a y) → IsApartFromLater t step a
 apart_from_later t step a n all each = record {
   apart = λ y later. elim (leb_tells n y) [
     | inl past ↦ apart_without_second t step a y (no_train t y step (omega (arith, past.1)))
@@ -44,7 +44,7 @@ first_pair t step a k before found = record {
   pairs_before = λ x y later earlier. elim earlier [
     | inl low ↦ (before x (omega (arith, low, found.first))).apart y later
     | inr same ↦ let at : a ≡ x = omega (arith, same.0, found.first) in
-        subst (λ z. AreApart t step z y) at (found.apart_before y (omega (arith, later, at)) same.1)
+        subst (λ z. AreTrainsApart t step z y) at (found.apart_before y (omega (arith, later, at)) same.1)
   ];
   in_order = omega (arith, found.first, found.in_order);
   clash = subst (λ z. IsClash t step z k.b.0 k.e k.f) (sym found.first) found.clash;
@@ -57,7 +57,7 @@ first_step t n k before found =
     let clash : IsClash t k.step k.a.0 k.b.0 k.e k.f = subst (λ s. IsClash t s k.a.0 k.b.0 k.e k.f) (sym found.at_step) found.clash in
     record {
       steps_before = λ s x y low later. (before s (omega (arith, low, found.at_step))).apart x y later;
-      pairs_before = λ x y later earlier. subst (λ s. AreApart t s x y) (sym found.at_step) (found.pairs_before x y later earlier);
+      pairs_before = λ x y later earlier. subst (λ s. AreTrainsApart t s x y) (sym found.at_step) (found.pairs_before x y later earlier);
       in_order = found.in_order;
       one = clash.one;
       other = clash.other;
@@ -67,7 +67,7 @@ first_step t n k before found =
     }
 
 -- all trains are apart at each step of the instance, and no train is there at another
-pub always_apart : (t : Traffic) (n : ℕ) → IsSound t → t.inst.now.steps ≤ n → ((s : ℕ) → s < n → AreAllApart t s) → (step x y : ℕ) → x < y → AreApart t step x y
+pub always_apart : (t : Traffic) (n : ℕ) → IsSound t → t.inst.now.steps ≤ n → ((s : ℕ) → s < n → AreAllApart t s) → (step x y : ℕ) → x < y → AreTrainsApart t step x y
 always_apart t n sound all each step x y later =
     elim (leb_tells n step) [
       | inl past ↦ apart_without_first t step x y

@@ -1,3 +1,4 @@
+-- The lemmas and laws of `plan_checker`, each file a subject.
 mod StreakLemmas
 mod RunLemmas
 mod StopLemmas

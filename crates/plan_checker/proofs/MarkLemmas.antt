@@ -10,7 +10,7 @@ use Rattle.cell_net.specs.declared.cells.DirCell.{DirCell}
 use Rattle.cell_net.specs.declared.plans.Sweep.{Sweep}
 use Rattle.layout_rules.specs.Classes.{class_of}
 use Rattle.plan_checker.specs.Clashes.{AreApartAt}
-use Rattle.plan_checker.specs.ClashSearch.{AreAllApart, AreApart, IsSound, Touches}
+use Rattle.plan_checker.specs.ClashSearch.{AreAllApart, AreTrainsApart, IsSound, Touches}
 use Rattle.plan_checker.specs.ClassMarks.{AreEarlier, AreOfTrains, HasClass, IsClassMarked, IsFreeFor, IsMarked, IsOneTaken, IsTaken, IsTrainMarked, KeepsMarks, MarksOnly, TouchesClass}
 use Rattle.plan_checker.specs.declared.marks.Mark.{Mark}
 use Rattle.plan_checker.specs.declared.traffic.Traffic.{Traffic}
@@ -107,7 +107,7 @@ apart_by_marks t marks step n sound all marked = record { apart = apart }
     cell_of : (x : ℕ) (w : Sweep) (c : DirCell) → Touches t x step w → Contains w.cells c → IsCell t.inst.now c.cell
     cell_of x w c has there = All-contains (λ (d : DirCell). IsCell t.inst.now d.cell) w.cells c (sound.on_cells x step w has) there
 
-    apart : (x y : ℕ) → x < y → AreApart t step x y
+    apart : (x y : ℕ) → x < y → AreTrainsApart t step x y
     apart x y later w v one other c d in_w in_v linked =
         let same : class_of t.classes.now c.cell ≡ class_of t.classes.now d.cell =
         (sound.alike.same_where_linked c.cell d.cell (cell_of x w c one in_w) (cell_of y v d other in_v)).1 linked in

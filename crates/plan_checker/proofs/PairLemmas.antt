@@ -9,7 +9,7 @@ use Rattle.cell_net.specs.declared.cells.DirCell.{DirCell}
 use Rattle.cell_net.specs.declared.plans.Sweep.{Sweep}
 use Rattle.cell_net.specs.declared.plans.TrainRun.{TrainRun}
 use Rattle.plan_checker.specs.Clashes.{HasSweep, AreApartAt, AreFirstLinked}
-use Rattle.plan_checker.specs.ClashSearch.{AreApart, AreLinked, IsClash, IsFirstLinkedTo, IsSeparatedFromAll, Touches}
+use Rattle.plan_checker.specs.ClashSearch.{AreTrainsApart, AreLinked, IsClash, IsFirstLinkedTo, IsSeparatedFromAll, Touches}
 use Rattle.plan_checker.specs.declared.traffic.Traffic.{Traffic}
 use Rattle.plan_checker.proofs.ListSteps.{get_contained}
 
@@ -32,16 +32,16 @@ same_sweep runs train step w v one other =
     ap (λ (r : TrainRun). slice_get r.sweeps (step - r.start)) run in
     same_Some w v (sym one.is_there.is_there ∙ (along ∙ other.is_there.is_there))
 
-pub apart_without_first : (t : Traffic) (step a b : ℕ) → ((w : Sweep) → ¬ Touches t a step w) → AreApart t step a b
+pub apart_without_first : (t : Traffic) (step a b : ℕ) → ((w : Sweep) → ¬ Touches t a step w) → AreTrainsApart t step a b
 unfolding AreApartAt
 apart_without_first t step a b none w v one other = absurd (none w one)
 
-pub apart_without_second : (t : Traffic) (step a b : ℕ) → ((v : Sweep) → ¬ Touches t b step v) → AreApart t step a b
+pub apart_without_second : (t : Traffic) (step a b : ℕ) → ((v : Sweep) → ¬ Touches t b step v) → AreTrainsApart t step a b
 unfolding AreApartAt
 apart_without_second t step a b none w v one other = absurd (none v other)
 
 apart_where_separated : (t : Traffic) (step a b : ℕ) (w v : Sweep) → Touches t a step w → Touches t b step v →
-    AreSeparated t.inst.now t.layout.now w.cells v.cells → AreApart t step a b
+    AreSeparated t.inst.now t.layout.now w.cells v.cells → AreTrainsApart t step a b
 unfolding AreApartAt
 apart_where_separated t step a b w v one other separated x y has_x has_y =
     let first : w ≡ x = same_sweep t.runs.now a step w x one has_x in
@@ -53,7 +53,7 @@ apart_where_separated t step a b w v one other separated x y has_x has_y =
 -- the two trains are apart, or their first linked cells make a clash
 pub clash_or_apart : (t : Traffic) (step a b : ℕ) (w v : Sweep) (found : Option (CellId × CellId)) → Touches t a step w → Touches t b step v →
     MatchOption found (AreSeparated t.inst.now t.layout.now w.cells v.cells) (λ pair. AreFirstLinked t.inst.now t.layout.now w.cells v.cells pair.0 pair.1) →
-    MatchOption found (AreApart t step a b) (λ pair. IsClash t step a b pair.0 pair.1)
+    MatchOption found (AreTrainsApart t step a b) (λ pair. IsClash t step a b pair.0 pair.1)
 clash_or_apart t step a b w v None one other separated = apart_where_separated t step a b w v one other separated
 clash_or_apart t step a b w v (Some pair) one other linked = record { one = w; other = v; has_one = one; has_other = other; first_linked = linked }
 

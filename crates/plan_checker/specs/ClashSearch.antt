@@ -49,8 +49,8 @@ pub record IsFirstLinkedTo (t : Traffic) (e : CellId) (cells : List DirCell) (f 
   pub before : HoldsBelow (IsSeparated t e) cells place
 
 -- the trains of these numbers are apart at the step
-abbrev pub AreApart : Traffic → ℕ → ℕ → ℕ → Type 0
-AreApart t step a b = AreApartAt t.inst.now t.layout.now t.runs.now step a b
+abbrev pub AreTrainsApart : Traffic → ℕ → ℕ → ℕ → Type 0
+AreTrainsApart t step a b = AreApartAt t.inst.now t.layout.now t.runs.now step a b
 
 -- the two trains have sweeps at the step, and e and f are the first of their cells that are linked
 pub record IsClash (t : Traffic) (step a b : ℕ) (e f : CellId) : Type 0 where
@@ -62,23 +62,23 @@ pub record IsClash (t : Traffic) (step a b : ℕ) (e f : CellId) : Type 0 where
 
 -- the train is apart from each later one at the step
 pub record IsApartFromLater (t : Traffic) (step a : ℕ) : Type 0 where
-  pub apart : (y : ℕ) → a < y → AreApart t step a y
+  pub apart : (y : ℕ) → a < y → AreTrainsApart t step a y
 
 -- the clash is of train a at the step, with the first later train that it isn't apart from
 pub record IsFirstClashOf (t : Traffic) (step a : ℕ) (k : Clash) : Type 0 where
   pub first : k.a.0 ≡ a
   pub at_step : k.step ≡ step
   pub in_order : a < k.b.0
-  pub apart_before : (y : ℕ) → a < y → y < k.b.0 → AreApart t step a y
+  pub apart_before : (y : ℕ) → a < y → y < k.b.0 → AreTrainsApart t step a y
   pub clash : IsClash t step a k.b.0 k.e k.f
 
 -- all trains are apart at the step
 pub record AreAllApart (t : Traffic) (step : ℕ) : Type 0 where
-  pub apart : (x y : ℕ) → x < y → AreApart t step x y
+  pub apart : (x y : ℕ) → x < y → AreTrainsApart t step x y
 
 -- the clash is that of the first pair of trains that aren't apart at the step
 pub record IsFirstClashAt (t : Traffic) (step : ℕ) (k : Clash) : Type 0 where
   pub at_step : k.step ≡ step
-  pub pairs_before : (x y : ℕ) → x < y → ComesBefore x y k.a.0 k.b.0 → AreApart t step x y
+  pub pairs_before : (x y : ℕ) → x < y → ComesBefore x y k.a.0 k.b.0 → AreTrainsApart t step x y
   pub in_order : k.a.0 < k.b.0
   pub clash : IsClash t step k.a.0 k.b.0 k.e k.f

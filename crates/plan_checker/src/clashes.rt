@@ -6,7 +6,7 @@ ghost use Rattle.cell_net.specs.Runs.{IsRun};
 ghost use Rattle.layout_rules.specs.Classes.{AreClasses};
 ghost use Rattle.plan_checker.specs.Clashes.{AreApartAt, IsFirstClash};
 ghost use Rattle.plan_checker.specs.ClassMarks.{AreEarlier};
-ghost use Rattle.plan_checker.specs.ClashSearch.{AreAllApart, AreApart, IsFirstClashAt, IsSound};
+ghost use Rattle.plan_checker.specs.ClashSearch.{AreAllApart, AreTrainsApart, IsFirstClashAt, IsSound};
 
 use crate::clash::Clash;
 use crate::marks::{Mark, are_all_apart, no_marks};
@@ -48,7 +48,7 @@ fn first_clash_in(traffic: &Traffic, marks: &mut [Option<Mark>]) -> Option<Clash
     requires marks { length marks.old ≡ length traffic.now.inst.now.cells }
     requires none { AreEarlier 0 marks.old }
     ensures { MatchOption result
-        ((step x y : ℕ) → x < y → AreApart traffic.now step x y)
+        ((step x y : ℕ) → x < y → AreTrainsApart traffic.now step x y)
         (λ k. IsFirstClash traffic.now.inst.now traffic.now.layout.now traffic.now.runs.now k.a.0 k.b.0 k.step k.e k.f) }
 {
     for step in 0..traffic.inst.steps() {

@@ -7,7 +7,7 @@ ghost use Rattle.cell_net.specs.Plans.{AreSeparated};
 ghost use Rattle.cell_net.specs.Runs.{IsSweepAt};
 ghost use Rattle.cell_net.specs.declared.plans.Sweep.{Sweep};
 ghost use Rattle.plan_checker.specs.Clashes.{AreFirstLinked};
-ghost use Rattle.plan_checker.specs.ClashSearch.{AreAllApart, AreApart, AreCells, AreLinked, IsApartFromLater, IsClash, IsFirstClashAt, IsFirstClashOf, IsFirstLinkedTo, IsSeparated, IsSound};
+ghost use Rattle.plan_checker.specs.ClashSearch.{AreAllApart, AreTrainsApart, AreCells, AreLinked, IsApartFromLater, IsClash, IsFirstClashAt, IsFirstClashOf, IsFirstLinkedTo, IsSeparated, IsSound};
 
 use crate::clash::Clash;
 use crate::traffic::{Traffic, sweep_at};
@@ -56,7 +56,7 @@ fn first_linked_at(traffic: &Traffic, step: u32, a: u32, b: u32) -> Option<(Cell
     requires sound { IsSound traffic.now }
     requires one { a < length traffic.now.runs.now }
     requires other { b < length traffic.now.runs.now }
-    ensures { MatchOption result (AreApart traffic.now step a b) (λ pair. IsClash traffic.now step a b pair.0 pair.1) }
+    ensures { MatchOption result (AreTrainsApart traffic.now step a b) (λ pair. IsClash traffic.now step a b pair.0 pair.1) }
 {
     let one = sweep_at(&traffic.runs[a as usize], step)?;
     let other = sweep_at(&traffic.runs[b as usize], step)?;

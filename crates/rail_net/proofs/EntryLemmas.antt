@@ -7,7 +7,7 @@ use Rattle.std.proofs.lemmas.List.Elements.{Contains-push, Contains-push_cases, 
 use Rattle.std.proofs.lemmas.Option.{same_Some, slice_get_within, slice_get-get_or, get_or_from_slice_get}
 use Rattle.rail_net.specs.Entries.{HasEntry, IsValueAt, AreValues, IsMixed, AreMixed}
 use Rattle.rail_net.specs.declared.entries.Entry.{Entry}
-use Rattle.rail_net.proofs.ListLemmas.{set_here, set_other}
+use Rattle.rail_net.proofs.ListLaws.{set_here, set_other}
 
 -- an entry under another key changes nothing at this key
 value_kept : (entries : List Entry) (e : Entry) (key : ℕ) (found : Option ℕ) → key ≢ e.key → IsValueAt entries key found → IsValueAt (entries ++ e ∷ []) key found

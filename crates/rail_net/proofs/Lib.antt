@@ -1,5 +1,6 @@
-pub mod ListLemmas
-pub mod NameLemmas
+-- The lemmas and laws of `rail_net`, each file a subject.
+pub mod ListLaws
+pub mod NameLaws
 pub mod EntryLemmas
 pub mod OrderLemmas
 pub mod ListingLemmas
@@ -7,3 +8,4 @@ pub mod ZipLemmas
 pub mod NodeLemmas
 pub mod SectionLemmas
 pub mod RuleLemmas
+pub mod RefusalLaws

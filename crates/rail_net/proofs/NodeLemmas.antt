@@ -1,5 +1,5 @@
 -- Tracks and the nodes at their ends, by names and by numbers.
-use Rattle.std.proofs.Common.{◌≡◌, ◌≢◌, ◌<◌, ◌≤◌, ◌+◌, ◌==◌, ◌⊎◌, inl, inr, ◌↔◌, ℕ, zero, suc, Bool, true, false, List, [], ◌∷◌, ◌++◌, length, get_or, cond, Some, slice_get, map, refl, sym, ap, subst, ◌∙◌, arith}
+use Rattle.std.proofs.Common.{◌≡◌, ◌<◌, ◌+◌, ◌==◌, ◌⊎◌, inl, inr, ℕ, zero, suc, List, [], ◌∷◌, length, get_or, cond, Some, slice_get, refl, sym, ap, subst, ◌∙◌, arith}
 use Rattle.std.specs.Prelude.{bytes_eq, count_by}
 use Rattle.std.specs.List.{Contains, All}
 use Rattle.std.proofs.lemmas.Bool.Decides.{Decides-eqb}
@@ -16,8 +16,8 @@ use Rattle.rail_net.specs.declared.ends.TrackEnds.{TrackEnds}
 use Rattle.rail_net.specs.declared.parts.NetParts.{NetParts}
 use Rattle.rail_net.specs.declared.parts.NodePart.{NodePart}
 use Rattle.rail_net.specs.declared.parts.TrackPart.{TrackPart}
-use Rattle.rail_net.proofs.ListLemmas.{there_is}
-use Rattle.rail_net.proofs.NameLemmas.{same_number}
+use Rattle.rail_net.proofs.ListLaws.{there_is}
+use Rattle.rail_net.proofs.NameLaws.{same_number}
 use Rattle.rail_net.proofs.ListingLemmas.{same_test, contains_cons, contains_first, contains_rest}
 use Rattle.rail_net.proofs.ZipLemmas.{joined_has, has_joined}
 

@@ -1,9 +1,9 @@
 -- Tests of rules by the numbers of nodes and tracks.
-use Rattle.std.proofs.Common.{◌≡◌, ◌<◌, ◌≤◌, ◌-◌, ◌^◌, ◌⊎◌, ◌↔◌, ℕ, Bool, true, false, IsTrue, List, Some, slice_get, min, nat_eq, refl, sym, ap, subst, ◌∙◌, arith}
+use Rattle.std.proofs.Common.{◌≡◌, ◌<◌, ◌-◌, ◌^◌, ◌⊎◌, ◌↔◌, ℕ, Bool, true, false, IsTrue, List, Some, slice_get, min, nat_eq, sym, ap, subst, ◌∙◌, arith}
 use Rattle.std.specs.List.{Contains}
 use Rattle.std.proofs.lemmas.Bool.{eqb-true, eq-eqb}
 use Rattle.std.proofs.lemmas.Option.{same_Some}
-use Rattle.rail_net.specs.Parts.{EndsAt, IsNode, IsTrack, node_names, track_names}
+use Rattle.rail_net.specs.Parts.{IsNode, IsTrack, node_names, track_names}
 use Rattle.rail_net.specs.Borders.{IsCandidate, IsFree, IsJoint}
 use Rattle.rail_net.specs.Refusals.{HasNewNodes, HasNewTracks}
 use Rattle.rail_net.specs.Rules.{IsHere}
@@ -12,8 +12,8 @@ use Rattle.rail_net.specs.declared.parts.NetParts.{NetParts}
 use Rattle.rail_net.specs.declared.parts.NodeKind.TheVariants as kind
 use Rattle.rail_net.specs.declared.parts.NodePart.{NodePart}
 use Rattle.rail_net.specs.declared.parts.TrackPart.{TrackPart}
-use Rattle.rail_net.proofs.ListLemmas.{contains_at, place_of, map_at}
-use Rattle.rail_net.proofs.NameLemmas.{same_number}
+use Rattle.rail_net.proofs.ListLaws.{contains_at, place_of, map_at}
+use Rattle.rail_net.proofs.NameLaws.{same_number}
 use Rattle.rail_net.proofs.NodeLemmas.{one_node}
 
 -- a small number is met by a sum that may not fit exactly if it is the sum

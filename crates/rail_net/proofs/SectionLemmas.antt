@@ -1,31 +1,29 @@
 -- Marks of nodes and sections: what they tell of the parts.
-use Rattle.std.proofs.Common.{◌≡◌, ◌≢◌, ◌<◌, ◌≤◌, ◌+◌, ◌⊎◌, inl, inr, ◌↔◌, ℕ, zero, suc, Bool, true, false, IsTrue, List, [], ◌∷◌, ◌++◌, length, get_or, Some, slice_get, map, refl, sym, ap, subst, ◌∙◌, arith}
+use Rattle.std.proofs.Common.{◌≡◌, ◌≢◌, ◌<◌, ◌+◌, ◌⊎◌, inl, inr, ◌↔◌, ℕ, zero, suc, Bool, true, false, IsTrue, List, [], ◌∷◌, ◌++◌, length, Some, slice_get, map, refl, sym, ap, subst, ◌∙◌, arith}
 use Rattle.std.specs.Prelude.{slice_index, if◌then◌else◌}
-use Rattle.std.specs.List.{Contains, range_with_len}
+use Rattle.std.specs.List.{range_with_len}
 use Rattle.std.proofs.lemmas.Bool.{cases_eq, false≢true}
-use Rattle.std.proofs.lemmas.List.{length-map}
 use Rattle.std.proofs.lemmas.List.Elements.{Contains-append_cases, Contains-append_left, Contains-append_right}
-use Rattle.std.proofs.lemmas.Option.{same_Some, slice_get_within, slice_get-get_or, get_or_from_slice_get}
+use Rattle.std.proofs.lemmas.Option.{same_Some, slice_get_within, get_or_from_slice_get}
 use Rattle.node_groups.specs.Reach.{LeadsTo, Reaches}
 use Rattle.node_groups.specs.Touch.{Touch, HasEnd}
 use Rattle.node_groups.specs.Groups.{GroupsByReach}
 use Rattle.node_groups.specs.declared.segments.Segment.{Segment}
 use Rattle.vss_lists.specs.Breaks.{HoldsOfEach}
-use Rattle.rail_net.specs.Parts.{EndsAt, IsNode, IsOfSection, node_names}
+use Rattle.rail_net.specs.Parts.{EndsAt, IsNode, IsOfSection}
 use Rattle.rail_net.specs.Borders.{IsFree}
 use Rattle.rail_net.specs.Refusals.{HasNewNodes}
 use Rattle.rail_net.specs.Rules.{IsListedOnce}
 use Rattle.rail_net.specs.Sections.{Adjoin, IsConnected, IsOfOneSection}
 use Rattle.rail_net.specs.Entries.{AreMixed, HasEntry, IsMixed}
-use Rattle.rail_net.specs.Tables.{AreApart, AreBars, AreEndsOf, AreHomes, AreSplits, flag_of, flags_of, paired, segment_of, segments_from, spread, under, zero_under}
+use Rattle.rail_net.specs.Tables.{AreMarkedApart, AreBars, AreEndsOf, AreHomes, AreSplits, flag_of, flags_of, paired, segment_of, segments_from, spread, under, zero_under}
 use Rattle.rail_net.specs.declared.entries.Entry.{Entry}
 use Rattle.rail_net.specs.declared.ends.TrackEnds.{TrackEnds}
 use Rattle.rail_net.specs.declared.parts.NetParts.{NetParts}
-use Rattle.rail_net.specs.declared.parts.NodePart.{NodePart}
 use Rattle.rail_net.specs.declared.parts.TrackPart.{TrackPart}
-use Rattle.rail_net.proofs.ListLemmas.{contains_at, place_of, map_at, mapped_at, there_is}
+use Rattle.rail_net.proofs.ListLaws.{contains_at, place_of, map_at, mapped_at, there_is}
 use Rattle.rail_net.proofs.ListingLemmas.{one_section}
-use Rattle.rail_net.proofs.NodeLemmas.{at_number, number_at, ends_there, has_spread, spread_has, node_within, keys_below, spread_within}
+use Rattle.rail_net.proofs.NodeLemmas.{at_number, number_at, ends_there, has_spread, spread_has, node_within, spread_within}
 use Rattle.rail_net.proofs.ZipLemmas.{zipped_at, at_zipped}
 
 -- a mark that is set exactly where something holds isn't set exactly where its opposite does
@@ -261,7 +259,7 @@ module _ (p : NetParts) (ends : List TrackEnds) (homes : List ℕ) (all_ends : A
         let same = (by_reach i.0 j.0 at.0 too.0).1 (reaches_map (Adjoin p) (Touch (segments_from ends homes) []) adjoin_touch i.0 j.0 (connected i.0 j.0 own also)) in
         differ (sym (ap (λ (x : Entry). x.value) first.4) ∙ (sym at.1 ∙ (same ∙ (too.1 ∙ ap (λ (x : Entry). x.value) second.4))))
 
-    pub are_apart : (marks : List Bool) → length marks ≡ length p.sections → AreMixed (paired homes groups) marks → AreApart p marks
+    pub are_apart : (marks : List Bool) → length marks ≡ length p.sections → AreMixed (paired homes groups) marks → AreMarkedApart p marks
     are_apart marks same mixed = record {
       len = same;
       at_section = λ section mark marked. unmarked mark (IsMixed (paired homes groups) section) (IsConnected p section) (mark_tells (paired homes groups) marks section mark mixed marked)

@@ -1,5 +1,5 @@
 -- Entries: numbers filed under other numbers, and what is kept of them under each.
-use Rattle.std.specs.Prelude.{◌≡◌, ◌≢◌, ◌<◌, ◌==◌, ℕ, List, [], ◌∷◌, Bool, Option, None, Some, length, slice_get, slice_index, count_by, Contains, IsTrue, ◌↔◌}
+use Rattle.std.specs.Prelude.{◌≡◌, ◌≢◌, ◌<◌, ◌==◌, ℕ, List, Bool, Option, None, Some, length, slice_get, slice_index, count_by, Contains, IsTrue, ◌↔◌}
 use Rattle.rail_net.specs.declared.entries.Entry.{Entry}
 
 -- an entry under that key has that value

@@ -1,3 +1,4 @@
+-- What the contracts of `rail_net` cite, each file a subject.
 pub mod Parts
 pub mod Breaks
 pub mod Entries
@@ -7,3 +8,4 @@ pub mod Borders
 pub mod Refusals
 pub mod Passages
 pub mod Tables
+pub mod Laws

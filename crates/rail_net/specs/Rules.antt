@@ -1,5 +1,5 @@
 -- The rules on names, nodes and tracks.
-use Rattle.std.specs.Prelude.{◌≡◌, ◌≢◌, ◌<◌, ◌≤◌, ◌+◌, ℕ, List, [], ◌∷◌, Option, None, Some, slice_get, count_by, bytes_eq, Contains, ⊤}
+use Rattle.std.specs.Prelude.{◌≡◌, ◌≢◌, ◌<◌, ◌≤◌, ◌+◌, ℕ, List, Option, None, Some, slice_get, count_by, bytes_eq, Contains, ⊤}
 use Rattle.rail_net.specs.Parts.{IsTrack, node_names, track_names, listings, EndsAt, Lists}
 use Rattle.rail_net.specs.declared.parts.NodeKind.{NodeKind}
 use Rattle.rail_net.specs.declared.parts.NodeKind.TheVariants.{EndNode, Joint, Point, Crossing}

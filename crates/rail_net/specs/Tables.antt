@@ -1,5 +1,5 @@
 -- What is kept of a network's names, ends and listings by numbers.
-use Rattle.std.specs.Prelude.{◌≡◌, ◌↔◌, ◌≤◌, ◌+◌, ◌++◌, ℕ, Bool, false, if◌then◌else◌, List, [], ◌∷◌, map, Some, length, slice_get, slice_index, count_by, bytes_eq, Contains, ⊤}
+use Rattle.std.specs.Prelude.{◌≡◌, ◌↔◌, ◌+◌, ◌++◌, ℕ, Bool, false, if◌then◌else◌, List, [], ◌∷◌, map, Some, length, slice_get, slice_index, count_by, bytes_eq, ⊤}
 use Rattle.node_groups.specs.declared.segments.Segment.{Segment}
 use Rattle.rail_net.specs.Parts.{IsNode, IsTrack, IsOfSection, Stated, stated_by, listings, node_names, track_names, station_names}
 use Rattle.rail_net.specs.Rules.{begin_count, end_count}
@@ -117,7 +117,7 @@ pub record AreBars (p : NetParts) (marks : List Bool) : Type 0 where
       → (mark ≡ false) ↔ IsFree p name
 
 -- the sections that fall apart are marked
-pub record AreApart (p : NetParts) (marks : List Bool) : Type 0 where
+pub record AreMarkedApart (p : NetParts) (marks : List Bool) : Type 0 where
   pub len : length marks ≡ length p.sections
   pub at_section : (section : ℕ) (mark : Bool) → slice_get marks section ≡ Some mark
       → (mark ≡ false) ↔ IsConnected p section

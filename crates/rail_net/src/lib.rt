@@ -5,6 +5,7 @@ mod build;
 mod ends;
 mod entries;
 mod joining;
+mod laws;
 mod marks;
 mod names;
 mod net;
@@ -14,6 +15,8 @@ mod rules;
 mod sections;
 mod tables;
 
+pub use laws::net_refusals_are_one;
+pub use names::{Break, NameIndex, Named, index_of};
 pub use net::Net;
 pub use parts::{BorderPart, GroupPart, NetParts, NodeKind, NodePart, TrackPart};
 pub use refusal::{ListKind, NetFault, NetRefusal, Spot};

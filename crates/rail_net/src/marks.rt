@@ -6,7 +6,7 @@ ghost use Rattle.vss_lists.specs.Breaks.{HoldsOfEach};
 ghost use Rattle.rail_net.specs.Parts.{HasFewItems};
 ghost use Rattle.rail_net.specs.Refusals.{HasNewNodes, HasNewTracks};
 ghost use Rattle.rail_net.specs.Rules.{IsListedOnce};
-ghost use Rattle.rail_net.specs.Tables.{AreApart, AreBars, AreDegrees, AreEndsOf, AreHomes, AreListingCounts, AreListings, AreSplits, flags_of, spread as spread_entries, zero_under};
+ghost use Rattle.rail_net.specs.Tables.{AreMarkedApart, AreBars, AreDegrees, AreEndsOf, AreHomes, AreListingCounts, AreListings, AreSplits, flags_of, spread as spread_entries, zero_under};
 
 use crate::ends::{TrackEnds, begin_counts, end_counts};
 use crate::entries::{Entry, counts, mixed};
@@ -126,7 +126,7 @@ pub(crate) fn apart_of(
     requires ends { AreEndsOf parts.now ends.now }
     requires homes { AreHomes parts.now homes.now }
     requires once { HoldsOfEach (IsListedOnce parts.now) parts.now.tracks }
-    ensures { IfOk result (λ marks. AreApart parts.now marks.items) }
+    ensures { IfOk result (λ marks. AreMarkedApart parts.now marks.items) }
 {
     let groups = groups(alloc, ends, homes)?;
     let entries = paired(alloc, homes, &groups)?;

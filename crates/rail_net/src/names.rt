@@ -9,26 +9,30 @@ use indexmap::IndexSet;
 use std::alloc::Global;
 use std::marker::Model;
 
-/// The first item that breaks a rule, or want of memory.
+/// Where a list breaks a rule.
 #[derive(Clone, Copy, Debug)]
-pub(crate) enum Break {
+pub enum Break {
+    /// The first item that breaks it.
     At(u32),
+    /// Want of memory: the rule wasn't tested to the end.
     Memory,
 }
 
 /// An item with a name.
-pub(crate) trait Named {
+pub trait Named {
     ghost use Rattle.std.specs.Prelude.{◌≡◌, ℕ, List};
 
+    /// The bytes of its name.
     ghost name_of: { Self → List ℕ };
 
+    /// Its name.
     fn name(&self) -> &str
         ensures { result.now ≡ name_of self.now };
 }
 
 /// The names of a list, which are all different, in their order. Contracts see it as the names.
 #[derive(Drop)]
-pub(crate) struct NameIndex {
+pub struct NameIndex {
     names: IndexSet<String>,
 }
 
@@ -56,7 +60,7 @@ impl NameIndex {
 
 /// The names of the items, with their numbers; or the first item whose name stood before. Linear in
 /// the names.
-pub(crate) fn index_of<T: Named>(alloc: Global, items: &[T]) -> Result<NameIndex, Break>
+pub fn index_of<T: Named>(alloc: Global, items: &[T]) -> Result<NameIndex, Break>
     requires { length items.now < 2 ^ 32 }
     ensures names { IfOk result (λ index. index ≡ map T.name_of items.now) }
     ensures new { IfOk result (λ _. HoldsOfEach (HasNewName T.name_of items.now) items.now) }

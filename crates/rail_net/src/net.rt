@@ -8,6 +8,7 @@ ghost use Rattle.rail_net.specs.Refusals.{IsNet, Refuses, net_rules};
 use crate::build::test_rules;
 use crate::parts::{NetParts, NodeKind};
 use crate::refusal::NetRefusal;
+use crate::rules::has_end;
 use crate::tables::NetIndex;
 use std::alloc::Global;
 use std::marker::Model;
@@ -35,7 +36,8 @@ impl Model for Net {
 
 impl Net {
     /// Keeps the parts, if they keep every rule. Linear in their sizes but for hashed look-ups of
-    /// names and the sorting of the tracks' ends. Want of memory may come at any parts.
+    /// names and the sorting of the tracks' ends. Want of memory may come at any parts; as after every
+    /// refusal, they are dropped then.
     pub fn new(alloc: Global, parts: NetParts) -> Result<Net, NetRefusal>
         requires few { HasFewItems parts }
         requires named { AreNamed parts }
@@ -88,6 +90,13 @@ impl Net {
         homes[track as usize]
     }
 
+    /// Whether the track has an end at the node, both by their numbers.
+    pub fn is_at(&self, node: u32, track: u32) -> bool
+        ensures { IsTrue result ↔ IsAtNode self.now node track }
+    {
+        is_at_node(&self.parts, node as usize, track as usize)
+    }
+
     /// Whether a passage leads over the node between two tracks that end there, all by their
     /// numbers.
     pub fn passage(&self, node: u32, one: u32, other: u32) -> bool
@@ -96,6 +105,20 @@ impl Net {
         ensures { IsTrue result ↔ HasPassage self.now node one other }
     {
         is_passage(&self.parts, node as usize, one as usize, other as usize)
+    }
+}
+
+fn is_at_node(parts: &NetParts, node: usize, track: usize) -> bool
+    ensures { IsTrue result ↔ IsAtNode parts.now node track }
+{
+    let nodes = parts.nodes.as_slice();
+    let tracks = parts.tracks.as_slice();
+    if node < nodes.len() && track < tracks.len() {
+        let name = nodes[node].name.as_str();
+        let part = &tracks[track];
+        has_end(part, name)
+    } else {
+        false
     }
 }
 

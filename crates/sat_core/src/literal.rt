@@ -1,7 +1,8 @@
 //! Variables, literals and the numbers of clauses.
 
-ghost use Rattle.std.specs.Prelude.{◌≡◌};
+ghost use Rattle.std.specs.Prelude.{◌≡◌, ◌≤◌};
 ghost use Rattle.sat_core.specs.Clauses.{negated as negation};
+ghost use Rattle.sat_core.specs.Marks.{mark_place};
 
 /// A variable, numbered from 1.
 #[derive(Clone, Copy, Debug, Default, PartialEq, Eq, PartialOrd, Ord, Hash)]
@@ -28,5 +29,13 @@ impl Lit {
             var: self.var,
             positive: !self.positive,
         }
+    }
+
+    /// The literal's place in a table that has two places for each variable.
+    pub fn place(self) -> usize
+        requires { 1 ≤ self.var.0 }
+        ensures { result ≡ mark_place self }
+    {
+        2 * (self.var.0 as usize - 1) + usize::from(self.positive)
     }
 }

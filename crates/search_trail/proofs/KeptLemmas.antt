@@ -7,9 +7,11 @@ use Rattle.sat_core.specs.Clauses.{IsOver}
 use Rattle.sat_core.specs.Fresh.{IsOpen}
 use Rattle.search_trail.specs.declared.entry.Entry.{Entry}
 use Rattle.search_trail.specs.Trails.{TrailParts, known_of}
-use Rattle.search_trail.specs.Kept.{mark_place, AreMarked, IsKept}
-use Rattle.search_trail.proofs.MarkLemmas.{AreMarked-push, AreMarked-pop, mark_within}
-use Rattle.search_trail.proofs.TrailLaws.{unknown_variable, open_apart, IsTrail-push, IsTrail-cut, now_low}
+use Rattle.search_trail.specs.Kept.{IsKept}
+use Rattle.sat_core.specs.Marks.{mark_place, AreMarked}
+use Rattle.sat_core.proofs.MarkLaws.{AreMarked-push, AreMarked-pop, mark_within}
+use Rattle.sat_core.proofs.OpenLaws.{unknown_variable, open_apart}
+use Rattle.search_trail.proofs.TrailLaws.{IsTrail-push, IsTrail-cut, now_low}
 
 -- the last entry of the front is undone
 pub undo_more : (vars : ℕ) (marks : List Bool) (entries : List Entry) (size : ℕ) (d : Entry) → AllPairs (λ one later. one.lit.var.0 ≢ later.lit.var.0) entries → 0 < size → size ≤ length entries → AreMarked vars marks (known_of (take size entries)) → AreMarked vars (set marks (mark_place (get_or entries (size - 1) d).lit) false) (known_of (take (size - 1) entries))

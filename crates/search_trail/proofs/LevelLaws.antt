@@ -10,7 +10,8 @@ use Rattle.sat_core.specs.Hints.{is_same, is_known}
 use Rattle.sat_core.proofs.LiteralLaws.{is_same-true, is_same-refl}
 use Rattle.search_trail.specs.declared.entry.Entry.{Entry}
 use Rattle.search_trail.specs.Trails.{TrailParts, IsTrail, IsCut, known_of, up_to}
-use Rattle.search_trail.proofs.TrailLaws.{known-at_entry, true_is_not_false}
+use Rattle.sat_core.proofs.OpenLaws.{true_is_not_false}
+use Rattle.search_trail.proofs.TrailLaws.{known-at_entry}
 
 pub up_to-at : (n : ℕ) (entries : List Entry) (k : ℕ) (d : Entry) → k < length entries → (get_or entries k d).level ≤ n → is_known (up_to n entries) (get_or entries k d).lit ≡ true
 up_to-at n [] k d within low = absurd (omega arith)

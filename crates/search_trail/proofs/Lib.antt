@@ -1,5 +1,5 @@
+-- The lemmas and laws of `search_trail`, each file a subject.
 pub mod KeptLemmas
 pub mod LevelLaws
-pub mod MarkLemmas
 pub mod ReasonLaws
 pub mod TrailLaws

@@ -1,77 +1,18 @@
 -- Laws of trails: what is known, room for an open variable, one entry more, the front up to a level.
-use Rattle.std.proofs.Common.{◌≡◌, ◌≢◌, ℕ, ◌+◌, ◌-◌, ◌<◌, ◌≤◌, Bool, true, false, not, ◌⊎◌, inl, inr, List, [], ◌∷◌, ◌++◌, length, map, take, get_or, min, refl, ap, sym, subst, ◌∙◌, arith}
+use Rattle.std.proofs.Common.{◌≡◌, ◌≢◌, ℕ, ◌+◌, ◌-◌, ◌<◌, ◌≤◌, Bool, true, false, not, inl, inr, List, [], ◌∷◌, ◌++◌, length, map, take, get_or, min, refl, ap, sym, subst, ◌∙◌, arith}
 use Rattle.std.specs.Prelude.{All, AllPairs, Any, None}
-use lib.Dec.{eqb}
-use Rattle.std.proofs.lemmas.Bool.{cases_eq, cases_lt, cases_order, cases_Bool, eqb-true}
+use Rattle.std.proofs.lemmas.Bool.{cases_eq, cases_lt, cases_order, cases_Bool}
 use Rattle.std.proofs.lemmas.List.{length_push, get_or_push, get_or_append_left, get_or-map, length-map, get_or_default, get_or-take, length-take-le, length-take, append_assoc, append-nil}
 use Rattle.std.proofs.lemmas.List.Elements.{All-push, All-nil, All-append}
 use Rattle.std.proofs.lemmas.List.Quantifiers.{all_pairs_push, Any-push}
-use Rattle.std.proofs.lemmas.List.Folds.{list_any_none, list_any_at, Any-from_list_any}
-use Rattle.std.proofs.lemmas.Map.Keys.{IsDistinct-from_apart}
-use Rattle.std.proofs.lemmas.Map.Steps.{length-le_from_distinct_below}
 use Rattle.sat_core.specs.declared.literal.Lit.{Lit}
 use Rattle.sat_core.specs.Clauses.{negated, IsOver}
-use Rattle.sat_core.specs.Hints.{is_same, is_known}
+use Rattle.sat_core.specs.Hints.{is_known}
 use Rattle.sat_core.specs.Fresh.{IsOpen}
-use Rattle.sat_core.proofs.LiteralLaws.{is_same-true, is_same-refl, negated-negated}
+use Rattle.sat_core.proofs.LiteralLaws.{negated-negated}
+use Rattle.sat_core.proofs.OpenLaws.{is_known-at, place_of_known, open_apart, distinct_below}
 use Rattle.search_trail.specs.declared.entry.Entry.{Entry}
 use Rattle.search_trail.specs.Trails.{TrailParts, known_of, IsTrail, Grows}
-
--- literals of different variables differ
-pub is_same-apart : (one other : Lit) → one.var.0 ≢ other.var.0 → is_same one other ≡ false
-is_same-apart one other apart = elim (is_same one other) as (λ b. is_same one other ≡ b → b ≡ false) [
-  | true ↦ λ same. absurd (apart (ap (λ l. l.var.0) (is_same-true one other same)))
-  | false ↦ λ _. refl
-] refl
-
-sign_cases : (b c : Bool) → (b ≡ c) ⊎ (b ≡ not c)
-sign_cases true true = inl refl
-sign_cases true false = inr refl
-sign_cases false true = inr refl
-sign_cases false false = inl refl
-
-pub same_variable : (one other : Lit) → one.var.0 ≡ other.var.0 → (one ≡ other) ⊎ (one ≡ negated other)
-same_variable one other same =
-    let make : ℕ → Bool → Lit = λ n b. record { var = record { 0 = n }; positive = b } in
-    elim (sign_cases one.positive other.positive) [
-      | inl signs ↦ inl (ap (λ n. make n one.positive) same ∙ ap (make other.var.0) signs)
-      | inr signs ↦ inr (ap (λ n. make n one.positive) same ∙ ap (make other.var.0) signs)
-    ]
-
-pub known_at : (known : List Lit) (k : ℕ) (d : Lit) → k < length known → is_known known (get_or known k d) ≡ true
-known_at known k d within = list_any_at (is_same (get_or known k d)) known k d within (is_same-refl (get_or known k d))
-
--- what is known stands somewhere
-pub place_of_known : (known : List Lit) (lit : Lit) → is_known known lit ≡ true → (k : ℕ) × (k < length known) × ((d : Lit) → get_or known k d ≡ lit)
-place_of_known known lit found =
-    let any = Any-from_list_any (is_same lit) known found in
-    (any.0, any.2, λ d. get_or_default known any.0 d any.1 any.2 ∙ (any.3 ∙ sym (is_same-true lit any.1 any.4)))
-
-pub unknown_variable : (known : List Lit) (lit : Lit) → All (λ l. l.var.0 ≢ lit.var.0) known → is_known known lit ≡ false
-unknown_variable known lit apart = list_any_none (is_same lit) known (λ k d within. is_same-apart lit (get_or known k d) (λ same. apart k d within (sym same)))
-
-pub true_is_not_false : true ≡ false → ⊥
-true_is_not_false same = cc
-
--- an open literal's variable stands nowhere
-pub open_apart : (known : List Lit) (lit : Lit) → IsOpen known lit → All (λ l. l.var.0 ≢ lit.var.0) known
-open_apart known lit is_open k d within same = elim (same_variable (get_or known k d) lit same) [
-  | inl is ↦ true_is_not_false (sym (subst (λ l. is_known known l ≡ true) is (known_at known k d within)) ∙ is_open.0)
-  | inr is ↦ true_is_not_false (sym (subst (λ l. is_known known l ≡ true) is (known_at known k d within)) ∙ is_open.1)
-]
-
--- numbers below n that differ are at most n
-pub distinct_below : (xs : List ℕ) (n : ℕ) → AllPairs (λ a b. a ≢ b) xs → All (λ x. x < n) xs → length xs ≤ n
-distinct_below xs n apart below =
-    length-le_from_distinct_below xs n
-    (IsDistinct-from_apart eqb xs (λ i j d low high. elim (eqb (get_or xs i d) (get_or xs j d)) as (λ b. eqb (get_or xs i d) (get_or xs j d) ≡ b → b ≡ false) [
-      | true ↦ λ same. absurd (apart i j d low high (eqb-true (get_or xs i d) (get_or xs j d) same))
-      | false ↦ λ _. refl
-    ] refl))
-    (λ q found. let any = Any-from_list_any (eqb q) xs found in
-    let here : get_or xs any.0 any.1 < n = below any.0 any.1 any.2 in
-    let is : q ≡ any.1 = eqb-true q any.1 any.4 in
-    omega (arith, any.3, here, is))
 
 -- a trail on which a variable is open has room for it
 pub room_for : (t : TrailParts) (lit : Lit) → IsTrail t → IsOver t.vars lit → IsOpen (known_of t.entries) lit → length t.entries < t.vars
@@ -175,7 +116,7 @@ one_entry t e laws (k, x, within, is, same) = λ j d inside number. elim (cases_
 ]
 
 pub known-at_entry : (entries : List Entry) (k : ℕ) (d : Entry) → k < length entries → is_known (known_of entries) (get_or entries k d).lit ≡ true
-known-at_entry entries k d within = subst (λ l. is_known (known_of entries) l ≡ true) (get_or-map (λ (x : Entry). x.lit) entries k d d.lit within) (known_at (known_of entries) k d.lit (omega (arith, within, length-map entries (λ (x : Entry). x.lit))))
+known-at_entry entries k d within = subst (λ l. is_known (known_of entries) l ≡ true) (get_or-map (λ (x : Entry). x.lit) entries k d d.lit within) (is_known-at (known_of entries) k d.lit (omega (arith, within, length-map entries (λ (x : Entry). x.lit))))
 
 -- both signs of a variable are never true
 abbrev pub OneSign : List Entry → Type 0

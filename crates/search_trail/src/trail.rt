@@ -7,7 +7,7 @@ ghost use Rattle.search_trail.specs.Trails.{known_of, TruthOf, IsTrail, IsCut, a
 ghost use Rattle.search_trail.specs.declared.entry.Entry.{Entry};
 
 use crate::entry::{Entry, Truth};
-use crate::undo::{mark_of, undo};
+use crate::undo::undo;
 use sat_core::{ClauseId, Lit, Var};
 use std::alloc::{AllocError, Global};
 use std::marker::Model;
@@ -97,7 +97,7 @@ impl Trail {
         requires in_range { IsOver self.now.vars lit }
         ensures value { result ≡ is_known (known_of self.now.entries) lit }
     {
-        self.marks[mark_of(lit)]
+        self.marks[lit.place()]
     }
 
     /// Whether the literal is true, false or open: at most two reads.
@@ -105,9 +105,9 @@ impl Trail {
         requires in_range { IsOver self.now.vars lit }
         ensures value { TruthOf self.now.entries lit result }
     {
-        if self.marks[mark_of(lit)] {
+        if self.marks[lit.place()] {
             Truth::Yes
-        } else if self.marks[mark_of(lit.negated())] {
+        } else if self.marks[lit.negated().place()] {
             Truth::No
         } else {
             Truth::Open
@@ -211,7 +211,7 @@ impl Trail {
         requires decided { entry.reason ≡ None → self.old.present < entry.level }
         ensures one_more { self.new ≡ record self.old { entries = self.old.entries ++ entry ∷ []; present = entry.level } }
     {
-        self.marks[mark_of(entry.lit)] = true;
+        self.marks[entry.lit.place()] = true;
         self.places[entry.lit.var.0 as usize - 1] = self.entries.len() as u32;
         self.entries.push_reserved(entry);
         self.present = entry.level;

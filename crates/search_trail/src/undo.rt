@@ -1,12 +1,11 @@
-//! Where a literal has its mark, and how marks are undone.
+//! How marks are undone.
 ghost use Rattle.std.specs.Prelude.{◌≡◌, ◌≤◌, ◌<◌, ℕ, ◌-◌, ◌+◌, ◌*◌, cond, take, length, All, AllPairs, slice_index_or, ◌≢◌};
 ghost use Rattle.sat_core.specs.Clauses.{IsOver};
 ghost use Rattle.search_trail.specs.declared.entry.Entry.{Entry};
-ghost use Rattle.search_trail.specs.Kept.{mark_place, AreMarked};
+ghost use Rattle.sat_core.specs.Marks.{mark_place, AreMarked};
 ghost use Rattle.search_trail.specs.Trails.{known_of};
 
 use crate::entry::Entry;
-use sat_core::Lit;
 
 /// Unmarks the entries above a level, and tells how many entries stay. Linear in those that go. `vars` stands in the
 /// contract alone.
@@ -23,15 +22,7 @@ pub(crate) fn undo(vars: u32, marks: &mut [bool], entries: &[Entry], level: u32)
     let mut size = entries.len();
     while size > 0 && entries[size - 1].level > level {
         size -= 1;
-        marks[mark_of(entries[size].lit)] = false;
+        marks[entries[size].lit.place()] = false;
     }
     size
-}
-
-/// The place of the literal's mark.
-pub(crate) fn mark_of(lit: Lit) -> usize
-    requires { 1 ≤ lit.var.0 }
-    ensures { result ≡ mark_place lit }
-{
-    2 * (lit.var.0 as usize - 1) + usize::from(lit.positive)
 }

@@ -1,1 +1,2 @@
+-- What the contracts of `solver_face` cite, each file a subject.
 pub mod Solving

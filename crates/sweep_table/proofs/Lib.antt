@@ -1,3 +1,4 @@
+-- The lemmas and laws of `sweep_table`, each file a subject.
 mod FollowLemmas
 mod GrowLemmas
 mod GrownLaws

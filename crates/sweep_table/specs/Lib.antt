@@ -1,3 +1,4 @@
+-- What the contracts of `sweep_table` cite, each file a subject.
 pub mod Tables
 pub mod Order
 pub mod Sweeps

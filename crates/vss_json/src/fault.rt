@@ -20,6 +20,17 @@ pub enum WalkFault<M> {
     Memory,
 }
 
+/// Why bytes are no document.
+#[derive(Clone, Copy, Debug, PartialEq, Eq)]
+pub enum DocumentFault<M> {
+    /// They are no JSON text in UTF-8, or one that nests deeper than 127.
+    NotJson,
+    /// Their value's first fault of shape.
+    Shape(ShapeFault<M>),
+    /// Want of memory.
+    Memory,
+}
+
 impl<M> From<AllocError> for WalkFault<M> {
     ghost use Rattle.vss_json.specs.declared.fault.WalkFault.TheVariants.{Memory};
     ghost use Rattle.std.specs.Prelude.{◌≡◌};

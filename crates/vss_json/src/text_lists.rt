@@ -55,8 +55,8 @@ fn each_text<M: Copy + Drop>(
     Ok(Items::from_vec(texts))
 }
 
-/// A text of one's own.
-pub(crate) fn own(alloc: Global, text: &str) -> Result<Text, AllocError>
+/// A text of one's own; linear in its bytes.
+pub fn own(alloc: Global, text: &str) -> Result<Text, AllocError>
     ensures { IfOk result (λ copy. copy ≡ text.now) }
 {
     Ok(Text::from_string(String::from_str(alloc, text)?))

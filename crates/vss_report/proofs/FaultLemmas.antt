@@ -1,27 +1,23 @@
 -- Where a text goes wrong, told at the lines that were read of it.
-use Rattle.std.proofs.Common.{◌≡◌, ◌≢◌, ◌<◌, ◌≤◌, ◌+◌, ◌-◌, ◌⊎◌, inl, inr, ℕ, Bool, true, false, List, [], ◌∷◌, ◌++◌, All, length, zero, suc, get_or, take, map, refl, sym, subst, ap, ◌∙◌, arith, append_assoc, append-nil, length-append}
-use Rattle.std.specs.List.{flat_map}
-use Rattle.std.proofs.lemmas.List.{map-append}
+use Rattle.std.proofs.Common.{◌≡◌, ◌≢◌, ◌<◌, ◌+◌, ◌-◌, inl, inr, ℕ, Bool, true, false, List, [], ◌∷◌, ◌++◌, All, length, zero, suc, get_or, take, map, refl, sym, subst, ap, ◌∙◌, arith, append_assoc, append-nil, length-append}
 use Rattle.std.proofs.lemmas.Grind.{flat_map-append}
 use Rattle.std.proofs.Math.Seq.{take-append_seam, take-append-add}
 use Rattle.std.proofs.lemmas.List.Elements.{All-nil, All-append, All-head, All-tail}
-use Rattle.vss_io.specs.Line.{flat, line}
+use Rattle.vss_io.specs.Line.{flat}
 use Rattle.std.specs.Prelude.{nat_eq, if◌then◌else◌, slice_get, Some}
 use Rattle.std.proofs.lemmas.Bool.{eqb-true}
 use Rattle.std.proofs.lemmas.List.{take_all, get_or_append_left, get_or_at}
 use Rattle.vss_text.specs.Lines.{lines_of, with_first, IsOneLine}
-use Rattle.vss_text.specs.Reading.{EndsWithin, NeverBegins, Misses}
-use Rattle.vss_text.specs.declared.miss.Miss.{Miss}
-use Rattle.vss_text.specs.declared.miss.Miss.TheVariants.{Short, Wrong}
+use Rattle.vss_text.specs.Reading.{EndsWithin, NeverBegins}
 use Rattle.vss_text.proofs.LineLaws.{lines-line, lines-one, FirstLine, none, whole, last, first_line, word_same}
 use Rattle.vss_report.specs.Lines.{ReportLine, kind_of, line_text, full_text, text_of, IsSpelled}
 use Rattle.vss_report.specs.Places.{kinds_at, place_after, IsAmong, MayStand, Leads, Ends, CanEnd}
-use Rattle.vss_report.specs.Faults.{up_to, GoesWrongAt, IsFirstWrong}
+use Rattle.vss_report.specs.Faults.{up_to, IsFirstWrong}
 use Rattle.vss_report.specs.declared.place.Place.{Place}
 use Rattle.vss_report.specs.declared.place.Place.TheVariants.{Finished}
 use Rattle.vss_report.proofs.LineTexts.{line_plain}
-use Rattle.vss_report.proofs.LineReadings.{GoesOn, goes_on}
-use Rattle.vss_report.proofs.PlaceLemmas.{leads_on, leads_then, Ending, ending}
+use Rattle.vss_report.proofs.LineReadings.{goes_on}
+use Rattle.vss_report.proofs.PlaceLemmas.{leads_on, leads_then, ending}
 
 -- these lines are read of the text, and this is left
 pub record IsRead (from : Place) (text : List ℕ) (done : List ReportLine) (at : Place) (left : List ℕ) : Type 0 where
@@ -128,7 +124,8 @@ flat-lines (byte ∷ bytes) = by_byte (nat_eq byte 10) refl (flat-lines bytes)
     by_byte true same more = ap (λ t. 10 ∷ t) more ∙ ap (λ b. b ∷ bytes) (sym (eqb-true byte 10 same))
     by_byte false same more = flat-with_first byte (lines_of bytes) ∙ ap (λ t. byte ∷ t) more
 
-whole_text : (text : List ℕ) → up_to (length (lines_of text)) text ≡ text
+-- all lines of a text are the text
+pub whole_text : (text : List ℕ) → up_to (length (lines_of text)) text ≡ text
 whole_text text = ap flat (take_all (length (lines_of text)) (lines_of text) (omega arith)) ∙ flat-lines text
 
 -- the text ends where it could go on

@@ -3,8 +3,8 @@ use Rattle.std.proofs.Common.{◌≡◌, ◌<◌, ◌≤◌, ◌+◌, inl, inr, 
 use Rattle.std.proofs.lemmas.Bool.{cases_eq}
 use Rattle.std.proofs.lemmas.Option.{slice_get_within}
 use Rattle.vss_text.specs.Reading.{EndsWithin, NeverBegins}
-use Rattle.vss_report.specs.Lines.{ReportLine, kind_of, full_text}
-use Rattle.vss_report.specs.Places.{kinds_at, IsAmong, MayStand}
+use Rattle.vss_report.specs.Lines.{kind_of, full_text}
+use Rattle.vss_report.specs.Places.{kinds_at, MayStand}
 use Rattle.vss_report.specs.Readings.{IsOfKind, IsFound}
 use Rattle.vss_report.specs.declared.kind.Kind.{Kind}
 use Rattle.vss_report.specs.declared.place.Place.{Place}

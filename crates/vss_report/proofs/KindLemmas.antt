@@ -1,5 +1,5 @@
 -- Laws of the kinds of line: which lines are of a kind, and what is missed of them.
-use Rattle.std.proofs.Common.{◌≡◌, ◌<◌, ◌≤◌, ◌⊎◌, inl, inr, ℕ, List, [], ◌∷◌, ◌++◌, length, codes, decimal, true, refl, sym, ap, subst, ◌∙◌, arith, append_assoc}
+use Rattle.std.proofs.Common.{◌≡◌, ◌⊎◌, inl, inr, ℕ, List, [], ◌∷◌, ◌++◌, codes, decimal, true, refl, sym, ap, ◌∙◌, arith, append_assoc}
 use Rattle.std.specs.Borrow.{Bor}
 use Rattle.std.specs.List.{flat_map}
 use Rattle.std.specs.Str.{all_ascii_digits}
@@ -8,8 +8,6 @@ use Rattle.std.proofs.lemmas.Fmt.{decimal-digits_value}
 use Rattle.std.proofs.lemmas.Str.Parse.{numerals_by_value, tells_all_ascii_digits}
 use Rattle.derivation_log.specs.Text.{step_text, IsInRange}
 use Rattle.derivation_log.specs.Tested.{BeginsWithStep}
-use Rattle.derivation_log.specs.declared.step.Step.{Step}
-use Rattle.derivation_log.specs.declared.step.Step.TheVariants.{Drop}
 use Rattle.derivation_log.specs.declared.step.Bound.TheVariants.{Given, AtMost}
 use Rattle.derivation_log.specs.declared.tested.StepText.{StepText}
 use Rattle.derivation_log.proofs.StepLemmas.{step_read_once}
@@ -17,14 +15,13 @@ use Rattle.vss_names.specs.Names.{IsName}
 use Rattle.vss_text.specs.Numbers.{IsShort, ended}
 use Rattle.vss_text.specs.Reading.{EndsWithin, NeverBegins, Misses, MissesText, Both, both_spelled}
 use Rattle.vss_text.specs.declared.miss.Miss.{Miss}
-use Rattle.vss_text.specs.declared.miss.Miss.TheVariants.{Short, Wrong}
 use Rattle.vss_text.proofs.ReadingLaws.{misses_first, misses_second, misses_named, misses_either}
-use Rattle.vss_report.specs.Lines.{ReportLine, CellName, cut, joint, header, verdict_done, verdict_impossible, verdict_spent, conflicts, best_none, count, border, run, sweep, smaller_none, refutes, step, end_line, kind_of, spaced, full_text, IsSpelled}
+use Rattle.vss_report.specs.Lines.{ReportLine, cut, joint, header, verdict_done, verdict_impossible, verdict_spent, conflicts, best_none, count, border, run, sweep, smaller_none, refutes, step, end_line, kind_of, spaced, full_text}
 use Rattle.vss_report.specs.Readings.{IsOfKind, IsFound, named, behind, AreCells, cells_line, HasCells}
 use Rattle.vss_report.specs.declared.kind.Kind.{Kind}
 use Rattle.vss_report.specs.declared.kind.Kind.TheVariants as kind
 use Rattle.vss_report.specs.declared.read_line.ReadLine.TheVariants as read
-use Rattle.vss_report.proofs.PartLemmas.{Always, word, word_missed, rest_missed, letter}
+use Rattle.vss_report.proofs.PartLemmas.{Always, word}
 
 -- an item of another kind that is spelled as the line
 abbrev IsLine : {X : Type 0} → (X → Type 0) → (X → List ℕ) → ReportLine → Type 0

@@ -1,8 +1,8 @@
 -- No text begins with two lines of a report.
-use Rattle.std.proofs.Common.{◌≡◌, ◌≢◌, ◌<◌, ◌≤◌, ◌^◌, ℕ, zero, suc, Bool, true, false, List, [], ◌∷◌, ◌++◌, All, length, codes, decimal, refl, sym, ap, subst, ◌∙◌, arith, append_assoc, append-nil, length-append}
-use Rattle.std.specs.Prelude.{slice_index, get_or}
+use Rattle.std.proofs.Common.{◌≡◌, ◌<◌, ◌≤◌, ◌^◌, ℕ, List, [], ◌∷◌, ◌++◌, All, length, codes, decimal, refl, sym, ap, ◌∙◌, arith, append_assoc, length-append}
+use Rattle.std.specs.Prelude.{slice_index}
 use Rattle.std.specs.List.{flat_map}
-use Rattle.std.proofs.lemmas.List.{append_cancel_left, get_or_append_left}
+use Rattle.std.proofs.lemmas.List.{append_cancel_left}
 use Rattle.std.proofs.lemmas.List.Elements.{All-head, All-tail}
 use Rattle.std.proofs.lemmas.Fmt.{decimal_injective, decimal_is_IsNumeral, decimal_nonempty}
 use Rattle.std.proofs.lemmas.Str.Parse.{digit_at}
@@ -56,7 +56,8 @@ cell_read_once = λ one other rest rest' fits fits' same.
     let ends = sign_once one.end other.end number.1 in
     (λ i. record { track = track.0 i; index = number.0 i; end = ends i }, number.2)
 
-cells_once : (one other : List CellName) → All IsSpelledCell one → All IsSpelledCell other → flat_map spaced one ≡ flat_map spaced other → one ≡ other
+-- no text is that of two lists of cells
+pub cells_once : (one other : List CellName) → All IsSpelledCell one → All IsSpelledCell other → flat_map spaced one ≡ flat_map spaced other → one ≡ other
 unfolding IsReadOnce
 cells_once [] [] fits fits' same = refl
 cells_once [] (cell ∷ other) fits fits' same = absurd (let never : [] ≡ 32 ∷ (cell_text cell ++ flat_map spaced other) = same in cc)

@@ -17,7 +17,7 @@ use Rattle.sat_core.specs.declared.literal.ClauseId.{ClauseId}
 use Rattle.vss_names.specs.Names.{IsName, is_name_byte}
 use Rattle.vss_text.specs.Lines.{Lacks, IsOneLine}
 use Rattle.vss_text.proofs.LineLaws.{one_line_by}
-use Rattle.vss_report.specs.Lines.{ReportLine, PlaceName, CellName, cut, joint, header, verdict_done, verdict_impossible, verdict_spent, conflicts, best_none, count, border, run, sweep, smaller_none, refutes, step, end_line, kind_of, sign, cell_text, spaced, place_text, bound_text, line_text, full_text, IsSpelledPlace, IsSpelledCell, IsSpelledBound, IsSpelled}
+use Rattle.vss_report.specs.Lines.{ReportLine, PlaceName, CellName, cut, joint, header, verdict_done, verdict_impossible, verdict_spent, conflicts, best_none, count, border, run, sweep, smaller_none, refutes, step, end_line, kind_of, sign, spaced, place_text, bound_text, line_text, full_text, IsSpelledPlace, IsSpelledCell, IsSpelledBound, IsSpelled}
 use Rattle.vss_report.specs.declared.kind.Kind.{Kind}
 use Rattle.vss_report.specs.declared.kind.Kind.TheVariants as kind
 

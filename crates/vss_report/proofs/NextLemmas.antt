@@ -1,5 +1,5 @@
 -- The fault of the next line.
-use Rattle.std.proofs.Common.{◌≡◌, ◌≢◌, ◌<◌, ◌+◌, inl, inr, ℕ, Bool, true, false, List, [], ◌∷◌, length, refl, sym, ap, arith}
+use Rattle.std.proofs.Common.{◌≡◌, ◌≢◌, ◌+◌, inl, inr, ℕ, Bool, true, false, List, [], ◌∷◌, length, refl, arith}
 use Rattle.std.specs.Prelude.{nat_eq}
 use Rattle.vss_text.specs.Lines.{lines_of}
 use Rattle.vss_text.specs.Reading.{EndsWithin, NeverBegins}
@@ -8,7 +8,7 @@ use Rattle.vss_report.specs.Places.{MayStand}
 use Rattle.vss_report.specs.Faults.{IsWrongHere}
 use Rattle.vss_report.specs.declared.fault.ReportFault.TheVariants.{BadLine}
 use Rattle.vss_report.specs.declared.place.Place.{Place}
-use Rattle.vss_report.specs.declared.place.Place.TheVariants.{Start, Finished}
+use Rattle.vss_report.specs.declared.place.Place.TheVariants.{Finished}
 use Rattle.vss_report.proofs.CountLemmas.{some_left, none_left}
 use Rattle.vss_report.proofs.FaultLemmas.{never_empty, short_plain, lines_few}
 

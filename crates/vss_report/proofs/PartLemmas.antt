@@ -1,14 +1,12 @@
 -- Laws of the parts of lines: names, and what stands behind words.
-use Rattle.std.proofs.Common.{◌≡◌, ◌≢◌, ◌<◌, ◌≤◌, ◌+◌, ◌⊎◌, inl, inr, ℕ, zero, suc, Bool, true, false, List, [], ◌∷◌, ◌++◌, All, length, take, drop, get_or, decimal, refl, sym, subst, ap, ◌∙◌, arith, append_assoc, append-nil, length-append}
+use Rattle.std.proofs.Common.{◌≡◌, ◌≢◌, ◌<◌, ◌≤◌, ◌+◌, ◌⊎◌, inl, inr, ℕ, true, false, List, [], ◌∷◌, ◌++◌, length, take, drop, get_or, refl, sym, subst, ap, ◌∙◌, arith, append_assoc}
 use Rattle.std.specs.Prelude.{IsTrue}
 use Rattle.std.proofs.lemmas.Bool.{cases_eq, cases_lt}
 use Rattle.std.proofs.lemmas.List.{take-append-drop, drop_more, length-take-le, get_or-take, take_all, get_or_append_left, get_or_at}
 use Rattle.std.proofs.lemmas.List.Elements.{All-nil, All-push}
 use Rattle.vss_names.specs.Names.{IsName, is_name_byte}
-use Rattle.vss_text.specs.Numbers.{IsShort, ended}
 use Rattle.vss_text.specs.Reading.{EndsWithin, NeverBegins, Misses, MissesText, IsReadOnce, Both, both_spelled}
 use Rattle.vss_text.specs.declared.miss.Miss.{Miss}
-use Rattle.vss_text.specs.declared.miss.Miss.TheVariants.{Short, Wrong}
 use Rattle.vss_text.proofs.ReadingLaws.{misses_first, misses_second, misses_named, word_read_once}
 use Rattle.vss_text.proofs.LineLaws.{word_same}
 use Rattle.vss_report.specs.Readings.{named, behind}

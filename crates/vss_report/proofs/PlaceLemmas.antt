@@ -1,6 +1,6 @@
 -- From each place of a report lines lead to its end.
-use Rattle.std.proofs.Common.{◌≡◌, ◌≢◌, ◌<◌, ℕ, zero, suc, Bool, true, false, List, [], ◌∷◌, ◌++◌, All, Some, slice_get, length, refl, sym, subst, ap, ◌∙◌, arith}
-use Rattle.std.proofs.lemmas.List.Elements.{All-nil, All-head, All-tail, All-push}
+use Rattle.std.proofs.Common.{ℕ, zero, suc, Bool, true, false, List, [], ◌∷◌, ◌++◌, All, refl, sym, subst, arith}
+use Rattle.std.proofs.lemmas.List.Elements.{All-nil, All-push}
 use Rattle.derivation_log.specs.declared.step.Bound.TheVariants.{Given}
 use Rattle.cell_net.specs.declared.cells.End.TheVariants.{Low}
 use Rattle.std.specs.Prelude.{IsTrue}

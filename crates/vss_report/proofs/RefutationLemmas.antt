@@ -1,34 +1,32 @@
 -- What is gathered of lines, line after line.
-use Rattle.std.proofs.Common.{◌≡◌, ◌≢◌, ◌<◌, ◌≤◌, ◌+◌, ◌-◌, ◌^◌, inl, inr, ℕ, zero, suc, List, [], ◌∷◌, ◌++◌, All, Option, Some, None, slice_get, length, refl, sym, ap, subst, ◌∙◌, arith, append_assoc, append-nil, length-append}
-use Rattle.std.specs.Prelude.{Bool, true, false, Result, Ok, Err, OnOk, OnErr, is_err}
-use Rattle.std.specs.List.{flat_map}
+use Rattle.std.proofs.Common.{◌≡◌, ◌≢◌, ◌<◌, ◌≤◌, ◌+◌, ◌-◌, inl, inr, ℕ, zero, suc, List, [], ◌∷◌, ◌++◌, Option, Some, None, slice_get, length, refl, sym, ap, subst, ◌∙◌, arith, append_assoc, append-nil, length-append}
+use Rattle.std.specs.Prelude.{true, false, Result, Ok, Err, OnOk, OnErr, is_err}
 use Rattle.std.proofs.lemmas.List.{flat_map_more}
 use Rattle.std.proofs.lemmas.Bool.{cases_eq, cases_lt}
 use Rattle.std.proofs.lemmas.Option.{slice_get_within}
-use Rattle.std.proofs.lemmas.List.Elements.{All-nil, All-push}
+use Rattle.std.proofs.lemmas.List.Elements.{All-push}
 use Rattle.derivation_log.specs.Text.{IsInRange}
 use Rattle.derivation_log.specs.Tested.{IsTextOf}
 use Rattle.derivation_log.specs.declared.tested.StepText.{StepText}
 use Rattle.derivation_log.specs.declared.step.Step.{Step}
 use Rattle.derivation_log.specs.declared.step.Bound.{Bound}
 use Rattle.derivation_log.specs.declared.step.Refutation.{Refutation}
-use Rattle.vss_text.specs.Lines.{lines_of, IsOneLine}
-use Rattle.vss_text.specs.Reading.{EndsWithin, NeverBegins}
-use Rattle.vss_text.proofs.LineLaws.{lines-one}
-use Rattle.vss_report.specs.Lines.{ReportLine, header, verdict_done, verdict_impossible, verdict_spent, conflicts, best_none, count, border, run, sweep, smaller_none, refutes, step, end_line, kind_of, line_text, full_text, text_of, IsSpelled}
-use Rattle.vss_report.specs.Places.{place_after, IsAmong, kinds_at, MayStand, Leads, Ends}
-use Rattle.vss_report.specs.Faults.{IsFirstWrong, IsWrongHere, IsBadLine}
+use Rattle.vss_text.specs.Lines.{lines_of}
+use Rattle.vss_text.specs.Reading.{NeverBegins}
+use Rattle.vss_report.specs.Lines.{ReportLine, sweep, refutes, step, kind_of, line_text, full_text, text_of, IsSpelled}
+use Rattle.vss_report.specs.Places.{place_after, kinds_at, MayStand, Leads, Ends}
+use Rattle.vss_report.specs.Faults.{IsWrongHere, IsBadLine}
 use Rattle.vss_report.specs.Readings.{IsFound, Says}
-use Rattle.vss_report.specs.Refutations.{steps_in, RefutesAt, RefutesNothing, States, StatesNone, ReachesStep, IsFault}
+use Rattle.vss_report.specs.Refutations.{steps_in, RefutesAt, States, StatesNone, ReachesStep}
 use Rattle.vss_report.specs.Gathered.{AreGathered, HasBound}
 use Rattle.vss_report.specs.declared.fault.ReportFault.{ReportFault}
-use Rattle.vss_report.specs.declared.fault.ReportFault.TheVariants.{BadLine, UnknownName, NoPart, Memory}
+use Rattle.vss_report.specs.declared.fault.ReportFault.TheVariants.{BadLine}
 use Rattle.vss_report.specs.declared.gathered.Gathered.{Gathered}
 use Rattle.vss_report.specs.declared.place.Place.{Place}
 use Rattle.vss_report.specs.declared.place.Place.TheVariants.{Start, Finished}
 use Rattle.vss_report.specs.declared.read_line.ReadLine.{ReadLine}
 use Rattle.vss_report.specs.declared.read_line.ReadLine.TheVariants as read
-use Rattle.vss_report.proofs.FaultLemmas.{IsRead, IsRead-none, wrong_line, short_line, never_empty}
+use Rattle.vss_report.proofs.FaultLemmas.{IsRead, IsRead-none, wrong_line, short_line}
 use Rattle.vss_report.proofs.PlaceLemmas.{leads_one}
 
 -- how far a report is read, from its first line on
@@ -88,7 +86,8 @@ IsOther (step s) = ⊥
 IsOther (refutes bound) = ⊥
 IsOther l = Unit {0}
 
-steps_in-append : (lines more : List ReportLine) → steps_in (lines ++ more) ≡ steps_in lines ++ steps_in more
+-- the steps of lines behind others
+pub steps_in-append : (lines more : List ReportLine) → steps_in (lines ++ more) ≡ steps_in lines ++ steps_in more
 steps_in-append [] more = refl
 steps_in-append (step s ∷ lines) more = ap (λ steps. s ∷ steps) (steps_in-append lines more)
 steps_in-append (l ∷ lines) more = steps_in-append lines more
@@ -194,6 +193,11 @@ says_other read.End l other says = subst IsOther (sym says) tt
 pub on_err_any : {T E : Type 0} (r : Result T E) (P : Type 0) → P → OnErr r P
 on_err_any (Ok x) P holds = tt
 on_err_any (Err e) P holds = holds
+
+-- what follows where the result is Ok
+pub on_ok_then : {T E : Type 0} (r : Result T E) (P Q : Type 0) → OnOk r P → (P → Q) → OnOk r Q
+on_ok_then (Ok x) P Q holds then = then holds
+on_ok_then (Err e) P Q holds then = tt
 
 pub err_tells : {T E : Type 0} (r : Result T E) (P : Type 0) → is_err r ≡ true → OnErr r P → P
 err_tells (Ok x) P is holds = absurd (let never : false ≡ true = is in cc)

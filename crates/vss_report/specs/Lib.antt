@@ -6,3 +6,11 @@ pub mod Reports
 pub mod Faults
 pub mod Refutations
 pub mod Gathered
+pub mod Names
+pub mod Designs
+pub mod Fits
+pub mod DesignFaults
+pub mod Found
+pub mod Taken
+pub mod Outcomes
+pub mod Written

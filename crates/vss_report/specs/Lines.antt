@@ -1,5 +1,5 @@
 -- The lines of a report, in the names that they give, and the text of each.
-use Rattle.std.specs.Prelude.{◌≡◌, ◌<◌, ◌≤◌, ◌++◌, ℕ, List, [], ◌∷◌, All, length, codes, decimal}
+use Rattle.std.specs.Prelude.{◌<◌, ◌≤◌, ◌++◌, ℕ, List, ◌∷◌, All, length, codes, decimal}
 use Rattle.std.specs.List.{flat_map}
 use Rattle.cell_net.specs.declared.cells.End.{End}
 use Rattle.cell_net.specs.declared.cells.End.TheVariants.{Low, High}

@@ -2,9 +2,6 @@
 use Rattle.std.specs.Prelude.{◌≡◌, ◌<◌, ◌++◌, ℕ, List, [], ◌∷◌, All, length}
 use Rattle.std.specs.List.{flat_map}
 use Rattle.derivation_log.specs.Tested.{IsTextOf}
-use Rattle.vss_text.specs.Numbers.{IsShort, ended}
-use Rattle.vss_text.specs.Reading.{Both, both_spelled}
-use Rattle.vss_names.specs.Names.{IsName}
 use Rattle.vss_report.specs.Lines.{ReportLine, CellName, cut, joint, header, verdict_done, verdict_impossible, verdict_spent, conflicts, best_none, count, border, run, sweep, smaller_none, refutes, step, end_line, kind_of, spaced, full_text, IsSpelled, IsSpelledCell}
 use Rattle.vss_report.specs.declared.kind.Kind.{Kind}
 use Rattle.vss_report.specs.declared.read_line.ReadLine.{ReadLine}

@@ -1,10 +1,10 @@
 -- The refutation of a report, and the answers of its reader.
-use Rattle.std.specs.Prelude.{◌≡◌, ◌≢◌, ◌-◌, ◌<◌, ◌≤◌, ◌++◌, ℕ, List, [], ◌∷◌, All, Some, slice_get, length}
+use Rattle.std.specs.Prelude.{◌≡◌, ◌≢◌, ◌-◌, ◌<◌, ◌++◌, ℕ, List, [], ◌∷◌, Result, Ok, Err, All, Some, slice_get, length}
 use Rattle.derivation_log.specs.declared.step.Step.{Step}
 use Rattle.derivation_log.specs.declared.step.Bound.{Bound}
 use Rattle.derivation_log.specs.declared.step.Refutation.{Refutation}
 use Rattle.vss_report.specs.Lines.{ReportLine, step, refutes, text_of, IsSpelled}
-use Rattle.vss_report.specs.Places.{Ends, Leads}
+use Rattle.vss_report.specs.Places.{Leads}
 use Rattle.vss_report.specs.Reports.{IsReport}
 use Rattle.vss_report.specs.Faults.{IsBadLine}
 use Rattle.vss_report.specs.declared.place.Place.{Place}
@@ -54,3 +54,12 @@ IsFault bytes (BadLine n) = IsBadLine bytes n
 IsFault bytes (UnknownName n) = ⊥
 IsFault bytes NoPart = StatesNone bytes
 IsFault bytes Memory = ReachesStep bytes
+
+-- what reading the refutation of a text answers
+abbrev pub IsRefutationReading : List ℕ → Result (Refutation × ℕ) ReportFault → Type 0
+IsRefutationReading bytes (Ok found) = States bytes found.0 found.1
+IsRefutationReading bytes (Err fault) = IsFault bytes fault
+
+-- but for want of memory, there is one such answer
+abbrev pub HasOneRefutationReading : List ℕ → Type 0
+HasOneRefutationReading bytes = (r s : Result (Refutation × ℕ) ReportFault) → r ≢ Err Memory → s ≢ Err Memory → IsRefutationReading bytes r → IsRefutationReading bytes s → r ≡ s

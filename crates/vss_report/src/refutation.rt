@@ -1,6 +1,6 @@
 //! The reader of a refutation.
-ghost use Rattle.std.specs.Prelude.{◌≤◌, ◌^◌, length, IfOk, IfErr};
-ghost use Rattle.vss_report.specs.Refutations.{States, IsFault};
+ghost use Rattle.std.specs.Prelude.{◌≤◌, ◌^◌, length};
+ghost use Rattle.vss_report.specs.Refutations.{IsRefutationReading};
 
 use crate::fault::ReportFault;
 use crate::gathered::Gathered;
@@ -16,8 +16,7 @@ use vss_lists::Items;
 /// `BadLine` at the first line at which the text goes wrong; `NoPart` where the report states no refutation.
 pub fn read_refutation(alloc: Global, bytes: &[u8]) -> Result<(Refutation, u32), ReportFault>
     requires { length bytes.now ≤ 2 ^ 30 }
-    ensures refutation { IfOk result (λ found. States bytes.now found.0 found.1) }
-    ensures fault { IfErr result (IsFault bytes.now) }
+    ensures { IsRefutationReading bytes.now result }
 {
     let mut gathered = Gathered::new(alloc);
     let mut place = Place::Start;

@@ -1,23 +1,25 @@
 //! The program: the words of the command line, the files of the system, standard output, and the exit status.
 #![tactic(auto)]
 
+mod call;
 mod edge;
 #[cfg(test)]
 mod tests;
 
+use call::run;
 use edge::{FileShelf, StdSink};
 use std::alloc::AllocError;
 use std::env;
 use std::io::ErrorKind;
 use std::process::ExitCode;
-use vss_run::{Status, run};
+use vss_answers::Status;
 
 fn main(rt: HostRuntime) -> ExitCode {
-    call(&rt).exit_code()
+    call_with(&rt).exit_code()
 }
 
 /// One call of the program, with the files of the system and standard output.
-fn call(rt: &HostRuntime) -> Status {
+fn call_with(rt: &HostRuntime) -> Status {
     let Ok(words) = words_of(rt) else {
         return Status::Memory;
     };

@@ -149,7 +149,8 @@ fn is_here(parts: &NetParts, names: &NetNames, node: &str, track: &str) -> bool
     }
 }
 
-fn has_end(track: &TrackPart, node: &str) -> bool
+/// Whether the track begins or ends at the node of that name.
+pub(crate) fn has_end(track: &TrackPart, node: &str) -> bool
     ensures { IsTrue result ↔ ((track.now.from ≡ node.now) ⊎ (track.now.to ≡ node.now)) }
 {
     track.from.as_str() == node || track.to.as_str() == node

@@ -5,7 +5,7 @@ ghost use Rattle.vss_lists.specs.Breaks.{BreaksFirstAt, HoldsOfEach};
 ghost use Rattle.rail_net.specs.Parts.{HasFewItems};
 ghost use Rattle.rail_net.specs.Rules.{HasGoodLength, HasGoodLimit, IsListedOnce, IsNoLoop};
 ghost use Rattle.rail_net.specs.Sections.{IsConnectedSection};
-ghost use Rattle.rail_net.specs.Tables.{AreApart, AreListingCounts};
+ghost use Rattle.rail_net.specs.Tables.{AreMarkedApart, AreListingCounts};
 
 use super::at::{RuleAt, first_break_at};
 use crate::parts::{GroupPart, NetParts, TrackPart};
@@ -135,7 +135,7 @@ fn is_listed_once(parts: &NetParts, counts: &[usize], place: u32, item: &TrackPa
 /// The first section that falls apart.
 pub(crate) fn first_apart(parts: &NetParts, apart: &[bool]) -> Option<u32>
     requires few { HasFewItems parts.now }
-    requires apart { AreApart parts.now apart.now }
+    requires apart { AreMarkedApart parts.now apart.now }
     ensures { MatchOption result (HoldsOfEach (IsConnectedSection parts.now) parts.now.sections) (BreaksFirstAt (IsConnectedSection parts.now) parts.now.sections) }
 {
     first_break_at(&ApartRule { parts, apart }, parts.sections.as_slice())
@@ -149,14 +149,14 @@ struct ApartRule<'a> {
 }
 
 impl<'a> Model for ApartRule<'a> {
-    ghost use Rattle.rail_net.specs.Tables.{AreApart};
+    ghost use Rattle.rail_net.specs.Tables.{AreMarkedApart};
     ghost use Rattle.rail_net.specs.declared.parts.NetParts.{NetParts};
 
     ghost Value = { NetParts };
 
     ghost view = { λ r. r.parts.now };
 
-    ghost invariant = { λ r. AreApart r.parts.now r.apart.now };
+    ghost invariant = { λ r. AreMarkedApart r.parts.now r.apart.now };
 }
 
 impl<'a> RuleAt<GroupPart> for ApartRule<'a> {
@@ -170,7 +170,7 @@ impl<'a> RuleAt<GroupPart> for ApartRule<'a> {
 }
 
 fn is_connected(parts: &NetParts, apart: &[bool], place: u32, item: &GroupPart) -> bool
-    requires apart { AreApart parts.now apart.now }
+    requires apart { AreMarkedApart parts.now apart.now }
     requires its { slice_get parts.now.sections place ≡ Some item.now }
     ensures { IsTrue result ↔ IsConnectedSection parts.now place item.now }
 {

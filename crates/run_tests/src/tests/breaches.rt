@@ -4,9 +4,9 @@ use cell_net::{CandidateId, CellId, CellLabel, Labels, PlaceLabel, TrainId};
 use plan_checker::Breach;
 use std::alloc::{AllocError, Global};
 use std::test::Fail;
+use vss_answers::print_breach;
 use vss_io::MemSink;
 use vss_lists::{Items, Text};
-use vss_run::print_breach;
 
 fn texts(alloc: Global, words: &[&str]) -> Result<Items<Text>, AllocError> {
     let mut texts = Items::new(alloc);

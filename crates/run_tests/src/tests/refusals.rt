@@ -17,24 +17,24 @@ static FIRSTS: [(&str, &str, &str, &str, u8); 13] = [
     (MISSING, MISSING, BORDERED, "read fault network", 4),
     (LINE, MISSING, MISSING, "read fault timetable", 4),
     (MISSING, OTHER, MISSING, "read fault network", 4),
-    (
-        OTHER,
-        MISSING,
-        MISSING,
-        "refused network NotYet document 0",
-        3,
-    ),
-    (OTHER, OTHER, OTHER, "refused network NotYet document 0", 3),
+    (OTHER, MISSING, MISSING, "refused network Shape nodes 0", 3),
+    (OTHER, OTHER, OTHER, "refused network Shape nodes 0", 3),
     (LINE, MISSING, OTHER, "read fault timetable", 4),
     (
         LINE,
         OTHER,
         MISSING,
-        "refused timetable NotYet document 0",
+        "refused timetable Shape space_step_m 0",
         3,
     ),
-    (LINE, OTHER, OTHER, "refused timetable NotYet document 0", 3),
-    (LINE, XY, OTHER, "refused report NotYet document 0", 3),
+    (
+        LINE,
+        OTHER,
+        OTHER,
+        "refused timetable Shape space_step_m 0",
+        3,
+    ),
+    (LINE, XY, OTHER, "refused report BadLine lines 1", 3),
 ];
 
 #[test]
@@ -69,17 +69,13 @@ static NAMES: [(&str, &str, u8); 7] = [
     ("judge net time plan", "read fault timetable", 4),
     ("judge net times -", "read fault report", 4),
     ("judge net times Plan", "read fault report", 4),
-    (
-        "judge times net plan",
-        "refused network NotYet document 0",
-        3,
-    ),
+    ("judge times net plan", "refused network Shape nodes 0", 3),
     (
         "judge net plan times",
-        "refused timetable NotYet document 0",
+        "refused timetable NotJson document 0",
         3,
     ),
-    ("judge net times net", "refused report NotYet document 0", 3),
+    ("judge net times net", "refused report BadLine lines 1", 3),
 ];
 
 #[test]

@@ -10,7 +10,7 @@ use vss_run::run;
 static FAILING: [(&str, &str, &str); 4] = [
     (JUDGE, BORDERED, "lawf"),
     (JUDGE, FOLLOWING, "breach apart X"),
-    (JUDGE, "", "refused report N"),
+    (JUDGE, "", "refused report "),
     ("judge net", "", "usage: vssplan TASK NET TIMETABLE ["),
 ];
 

@@ -1,3 +1,4 @@
+-- Why `add_counter` does what its contract says.
 use Rattle.std.proofs.Common.{◌≡◌, ◌<◌, ◌≤◌, ℕ, ◌+◌, ◌-◌, ◌^◌, ◌++◌, List, Bool, true, length, arith}
 use Rattle.std.specs.Prelude.{◌↔◌, All, count_by}
 use Rattle.sat_core.specs.declared.literal.Lit.{Lit}
@@ -7,8 +8,8 @@ use Rattle.border_counter.specs.Counter.{sum_to, at_least_lit, counter_clauses, 
 use Rattle.border_counter.specs.Fitting.{FitsCounter}
 use Rattle.border_counter.proofs.AddingLemmas.{front_behind, on_err}
 use Rattle.border_counter.proofs.OrderLemmas.{few_inputs}
-use Rattle.border_counter.proofs.Counting.{counter_law, counter_tells}
-use Rattle.border_counter.proofs.Extending.{extends}
+use Rattle.border_counter.proofs.CountingLaws.{counter_law, counter_tells}
+use Rattle.border_counter.proofs.ExtendingLaws.{extends}
 use Rattle.border_counter.proofs.counter.add_counter.Goals as goal
 
 -- the conditions, of a number of variables by any name

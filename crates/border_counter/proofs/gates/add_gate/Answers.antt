@@ -1,3 +1,4 @@
+-- Why `add_gate` does what its contract says.
 use Rattle.std.proofs.Common.{refl, sym, lit<, arith}
 use Rattle.gate_tables.specs.Gates.{eq_clauses, or2_clauses, and2_clauses, cell_clauses}
 use Rattle.border_counter.proofs.GateLemmas.{numbers_of, first_wired, lowest_wired, highest_wired, between_wired, gate_added, gate_size, earlier_below}

@@ -1,3 +1,4 @@
+-- Why `at_least` does what its contract says.
 use Rattle.std.proofs.Common.{◌≡◌, ◌≤◌, ℕ, ◌+◌, ◌-◌, ◌*◌, ◌/◌, ap, true, arith}
 use Rattle.sat_core.specs.declared.literal.Lit.{Lit}
 use Rattle.border_counter.specs.Counter.{at_least_var}

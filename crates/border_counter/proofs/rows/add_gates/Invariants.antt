@@ -1,3 +1,4 @@
+-- What the loop of `add_gates` keeps from turn to turn.
 use Rattle.std.specs.List.{flat_map, range_with_len}
 use Rattle.border_counter.specs.Adding.{AddsAll}
 use Rattle.border_counter.specs.Counter.{row_clauses}

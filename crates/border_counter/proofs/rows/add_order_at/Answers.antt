@@ -1,3 +1,4 @@
+-- Why `add_order_at` does what its contract says.
 use Rattle.std.proofs.Common.{◌+◌, length, ap, ◌∙◌, lit<, arith}
 use Rattle.sat_core.specs.Clauses.{negated}
 use Rattle.border_counter.proofs.OrderLemmas.{order_numbers, order_clause, order_added, order_size}

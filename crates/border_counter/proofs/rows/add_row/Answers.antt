@@ -1,3 +1,4 @@
+-- Why `add_row` does what its contract says.
 use Rattle.std.proofs.Common.{◌≡◌, ◌+◌, ◌^◌, refl, subst, arith}
 use Rattle.std.specs.Prelude.{IsOk}
 use Rattle.std.specs.List.{flat_map, range_with_len}

@@ -1,3 +1,4 @@
+-- What the loop of `add_row` keeps from turn to turn.
 use Rattle.std.specs.List.{flat_map, range_with_len}
 use Rattle.border_counter.specs.Adding.{AddsAll}
 use Rattle.border_counter.specs.Counter.{gate_at}

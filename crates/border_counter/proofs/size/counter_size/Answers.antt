@@ -1,3 +1,4 @@
+-- Why `counter_size` does what its contract says.
 use Rattle.std.proofs.Common.{◌≡◌, ℕ, ◌-◌, ◌^◌, refl, ap, ◌∙◌, arith}
 use Rattle.border_counter.specs.Sizes.{counter_clause_count, counter_lit_count}
 use Rattle.border_counter.proofs.SizeLemmas.{clause_count, lit_count, clauses_at, lits_at, square_le}

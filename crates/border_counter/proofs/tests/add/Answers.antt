@@ -1,3 +1,4 @@
+-- Why `add` does what its contract says.
 use Rattle.std.proofs.Common.{◌≡◌, ℕ, ◌+◌, ◌*◌, ◌/◌, refl, length, arith}
 use Rattle.border_counter.specs.Counter.{sum_to}
 use Rattle.border_counter.proofs.tests.add.Goals as goal

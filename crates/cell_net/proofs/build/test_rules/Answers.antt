@@ -1,3 +1,4 @@
+-- Why `test_rules` does what its contract says.
 use Rattle.std.proofs.Common.{◌≡◌, ◌∙◌, ap, arith, length, rules}
 use Rattle.std.proofs.lemmas.List.{length-map}
 use Rattle.vss_lists.specs.Orders.{IsFirstBroken}

@@ -1,3 +1,4 @@
+-- Why `refusals_are_exclusive` does what its contract says.
 use Rattle.cell_net.proofs.RefusalLaws.{one_refusal, refuses_no_instance}
 use Rattle.cell_net.proofs.laws.refusals_are_exclusive.Goals as goal
 

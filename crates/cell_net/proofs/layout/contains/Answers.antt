@@ -1,3 +1,4 @@
+-- Why `contains` does what its contract says.
 use Rattle.std.proofs.lemmas.Bool.{eq-eqb, eqb-true}
 use Rattle.cell_net.proofs.LayoutLemmas.{contains_at, stands_at}
 use Rattle.cell_net.proofs.layout.contains.Goals as goal

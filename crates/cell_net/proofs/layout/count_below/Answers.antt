@@ -1,3 +1,4 @@
+-- Why `count_below` does what its contract says.
 use Rattle.std.proofs.Common.{rules, ltb}
 use Rattle.std.proofs.lemmas.List.Sorted.{IsPartitionPoint-from_clause, IsPartitionedBy-ltb}
 use Rattle.cell_net.specs.declared.ids.CandidateId.{CandidateId}

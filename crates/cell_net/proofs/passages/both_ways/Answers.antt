@@ -1,3 +1,4 @@
+-- Why `both_ways` does what its contract says.
 use Rattle.std.proofs.Common.{arith, take, ◌≡◌}
 use Rattle.std.proofs.lemmas.List.{take_more, take_all}
 use Rattle.cell_net.specs.declared.cells.End.TheVariants.{Low}

@@ -1,3 +1,4 @@
+-- What the loop of `both_ways` keeps from turn to turn.
 use Rattle.std.proofs.Common.{take}
 use Rattle.cell_net.specs.Passages.{ArePassagesOf}
 use Rattle.cell_net.proofs.passages.both_ways.Given as goal

@@ -1,3 +1,4 @@
+-- Why `index_of` does what its contract says.
 use Rattle.cell_net.proofs.passages.index_of.Goals as goal
 
 pub returns : goal.returns

@@ -1,3 +1,4 @@
+-- Why `leads` does what its contract says.
 use Rattle.std.proofs.Common.{◌≡◌, arith, rules, true, false}
 use Rattle.cell_net.specs.Passages.{passage_between}
 use Rattle.cell_net.specs.declared.passages.Passage.{Passage}

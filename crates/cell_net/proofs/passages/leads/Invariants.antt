@@ -1,3 +1,4 @@
+-- What the loop of `leads` keeps from turn to turn.
 use Rattle.std.proofs.Common.{◌≡◌, ℕ, ◌<◌, ◌≤◌, slice_index, slice_index_or}
 use Rattle.cell_net.specs.declared.passages.Passage.{Passage}
 use Rattle.cell_net.proofs.passages.leads.Given as goal

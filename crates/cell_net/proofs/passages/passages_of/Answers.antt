@@ -1,3 +1,4 @@
+-- Why `passages_of` does what its contract says.
 use Rattle.cell_net.proofs.PassageLemmas.{passages_permuted}
 use Rattle.cell_net.proofs.passages.passages_of.Goals as goal
 

@@ -1,3 +1,4 @@
+-- Why `sort_passages` does what its contract says.
 use Rattle.std.proofs.Common.{rules}
 use Rattle.std.proofs.lemmas.List.Sorted.{IsNonDecreasingBy-from_sort_by_key}
 use Rattle.cell_net.specs.declared.passages.Passage.{Passage}

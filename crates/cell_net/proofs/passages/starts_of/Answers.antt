@@ -1,3 +1,4 @@
+-- Why `starts_of` does what its contract says.
 use Rattle.std.proofs.Common.{arith}
 use Rattle.std.proofs.lemmas.Grind.{common_steps}
 use Rattle.cell_net.proofs.PassageLemmas.{starts_push}

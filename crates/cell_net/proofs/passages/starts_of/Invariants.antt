@@ -1,3 +1,4 @@
+-- What the loop of `starts_of` keeps from turn to turn.
 use Rattle.std.proofs.Common.{◌≡◌, length}
 use Rattle.cell_net.specs.Passages.{AreStarts}
 use Rattle.cell_net.proofs.passages.starts_of.Given as goal

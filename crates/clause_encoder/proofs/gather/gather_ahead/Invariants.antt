@@ -1,3 +1,4 @@
+-- What the loop of `gather_ahead` keeps from turn to turn.
 use Rattle.clause_encoder.specs.Gathering.{IsGathered}
 use Rattle.clause_encoder.proofs.gather.gather_ahead.Given as goal
 

@@ -1,3 +1,4 @@
+-- Why `marked_items` does what its contract says.
 use Rattle.std.proofs.Common.{◌∙◌}
 use Rattle.clause_encoder.proofs.GatherLemmas.{kept_none, kept_more}
 use Rattle.clause_encoder.proofs.gather.marked_items.Goals as goal

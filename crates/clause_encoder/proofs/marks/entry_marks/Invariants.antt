@@ -1,5 +1,6 @@
+-- What the loop of `entry_marks` keeps from turn to turn.
 use Rattle.std.specs.Prelude.{◌≡◌, map, false, slice_index_or}
-use Rattle.clause_encoder.specs.Ranges.{from_below}
+use Rattle.clause_list.specs.Ranges.{from_below}
 use Rattle.clause_encoder.proofs.marks.entry_marks.Given as goal
 
 abbrev pub invariant-loop-item : goal.invariant-loop-item

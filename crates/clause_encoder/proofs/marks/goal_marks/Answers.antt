@@ -1,3 +1,4 @@
+-- Why `goal_marks` does what its contract says.
 use Rattle.std.proofs.Common.{◌∙◌, sym, arith}
 use Rattle.clause_encoder.proofs.MarkLemmas.{pushed_more, map_below_none, map_all}
 use Rattle.clause_encoder.proofs.marks.goal_marks.Goals as goal

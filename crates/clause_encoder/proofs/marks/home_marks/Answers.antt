@@ -1,3 +1,4 @@
+-- Why `home_marks` does what its contract says.
 use Rattle.std.proofs.Common.{◌∙◌, sym}
 use Rattle.clause_encoder.proofs.MarkLemmas.{pushed_more, map_below_none}
 use Rattle.clause_encoder.proofs.marks.home_marks.Goals as goal

@@ -1,6 +1,7 @@
+-- Why `homes_of` does what its contract says.
 use Rattle.std.proofs.Common.{◌≡◌, ◌+◌, ◌++◌, ◌∷◌, [], map, ◌∙◌, sym, ap, arith}
-use Rattle.clause_encoder.specs.Ranges.{from_below}
-use Rattle.clause_encoder.specs.Cones.{home, home_before}
+use Rattle.clause_list.specs.Ranges.{from_below}
+use Rattle.clause_list.specs.Cones.{home, home_before}
 use Rattle.clause_encoder.proofs.MarkLemmas.{rows_none, homes_more, next_home}
 use Rattle.clause_encoder.proofs.marks.homes_of.Goals as goal
 

@@ -1,3 +1,4 @@
+-- What the loop of `write_each` keeps from turn to turn.
 use Rattle.std.specs.Prelude.{take}
 use Rattle.std.specs.List.{flat_map}
 use Rattle.clause_encoder.specs.Writing.{Takes}

@@ -1,3 +1,4 @@
+-- Why `write_range` does what its contract says.
 use Rattle.std.proofs.Common.{refl, arith, inl, inr}
 use Rattle.clause_encoder.proofs.WritingLemmas.{range_none, range_step, range_done, range_full, range_fits}
 use Rattle.clause_encoder.proofs.part.write_range.Goals as goal

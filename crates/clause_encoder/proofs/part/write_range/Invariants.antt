@@ -1,6 +1,7 @@
+-- What the loop of `write_range` keeps from turn to turn.
 use Rattle.std.specs.Prelude.{◌≡◌, ◌≤◌, ◌⊎◌}
 use Rattle.std.specs.List.{flat_map}
-use Rattle.clause_encoder.specs.Ranges.{from_below}
+use Rattle.clause_list.specs.Ranges.{from_below}
 use Rattle.clause_encoder.specs.Writing.{Takes}
 use Rattle.clause_encoder.proofs.part.write_range.Given as goal
 

@@ -1,3 +1,4 @@
+-- Why `put` does what its contract says.
 use Rattle.std.proofs.Common.{◌≡◌, ◌∷◌, [], sym, subst, rules}
 use Rattle.std.proofs.lemmas.List.Elements.{All-cons, All-nil}
 use Rattle.sat_core.specs.Clauses.{IsClause}

@@ -1,3 +1,4 @@
+-- Why `descend` does what its contract says.
 use Rattle.std.proofs.Common.{◌≡◌, ◌+◌, ◌-◌, ℕ, arith, sym, subst, ◌∙◌}
 use Rattle.conflict_learn.specs.Working.{IsWorking}
 use Rattle.conflict_learn.proofs.WorkLemmas.{is_place, work_pass_lit, work_end, place_assigned}

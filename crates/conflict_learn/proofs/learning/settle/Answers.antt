@@ -1,3 +1,4 @@
+-- Why `settle` does what its contract says.
 use Rattle.std.proofs.Common.{refl}
 use Rattle.conflict_learn.proofs.WorkLemmas.{place_assigned}
 use Rattle.conflict_learn.proofs.learning.settle.Goals as goal

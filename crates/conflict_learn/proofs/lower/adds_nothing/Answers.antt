@@ -1,3 +1,4 @@
+-- Why `adds_nothing` does what its contract says.
 use Rattle.std.proofs.Common.{[], length}
 use Rattle.conflict_learn.proofs.WorkLemmas.{clause_over}
 use Rattle.conflict_learn.proofs.lower.adds_nothing.Goals as goal

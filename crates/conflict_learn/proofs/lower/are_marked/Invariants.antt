@@ -1,3 +1,4 @@
+-- What the loop of `are_marked` keeps from turn to turn.
 use Rattle.std.specs.Prelude.{◌≡◌, ℕ, ◌-◌, ◌<◌, true, false, slice_index_or}
 use Rattle.sat_core.specs.declared.literal.Lit.{Lit}
 use Rattle.conflict_learn.proofs.lower.are_marked.Given as goal

@@ -1,3 +1,4 @@
+-- Why `collect` does what its contract says.
 use Rattle.std.proofs.Common.{◌∙◌, inl, inr, ap, arith, get_or}
 use Rattle.std.proofs.lemmas.Bool.{cases_eq}
 use Rattle.conflict_learn.proofs.LowerLemmas.{place_is}

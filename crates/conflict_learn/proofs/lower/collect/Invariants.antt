@@ -1,3 +1,4 @@
+-- What the loop of `collect` keeps from turn to turn.
 use Rattle.std.specs.Prelude.{ℕ, ◌<◌, length}
 use Rattle.conflict_learn.specs.Working.{IsListed, IsTouchedAt}
 use Rattle.conflict_learn.proofs.lower.collect.Given as goal

@@ -1,3 +1,4 @@
+-- Why `keep_low` does what its contract says.
 use Rattle.std.proofs.Common.{ap, ◌∙◌, ◌∷◌, ◌++◌, []}
 use Rattle.conflict_learn.proofs.WorkLemmas.{place_assigned}
 use Rattle.conflict_learn.proofs.LowerLemmas.{kept_place}

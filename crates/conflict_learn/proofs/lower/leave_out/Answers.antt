@@ -1,3 +1,4 @@
+-- Why `leave_out` does what its contract says.
 use Rattle.conflict_learn.proofs.LowerLemmas.{implied_place}
 use Rattle.conflict_learn.proofs.lower.leave_out.Goals as goal
 

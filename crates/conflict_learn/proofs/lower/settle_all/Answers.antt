@@ -1,3 +1,4 @@
+-- Why `settle_all` does what its contract says.
 use Rattle.std.proofs.Common.{arith}
 use Rattle.conflict_learn.proofs.LowerLemmas.{none_between, listed_less, passes}
 use Rattle.conflict_learn.proofs.lower.settle_all.Goals as goal

@@ -1,3 +1,4 @@
+-- What the loop of `settle_all` keeps from turn to turn.
 use Rattle.std.specs.Prelude.{◌≡◌, ◌≤◌, length}
 use Rattle.conflict_learn.specs.Working.{IsWorkingOn}
 use Rattle.conflict_learn.proofs.LowerLemmas.{AreListedTo}

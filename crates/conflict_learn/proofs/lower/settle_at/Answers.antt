@@ -1,3 +1,4 @@
+-- Why `settle_at` does what its contract says.
 use Rattle.std.proofs.Common.{◌+◌, ◌∙◌, arith, sym}
 use Rattle.conflict_learn.proofs.LowerLemmas.{passes, unmarked_here}
 use Rattle.conflict_learn.proofs.WorkLemmas.{is_place, place_assigned}

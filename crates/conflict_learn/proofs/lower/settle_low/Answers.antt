@@ -1,3 +1,4 @@
+-- Why `settle_low` does what its contract says.
 use Rattle.std.proofs.Common.{ℕ, sym, subst}
 use Rattle.std.specs.Prelude.{All}
 use Rattle.sat_core.specs.Clauses.{IsClause}

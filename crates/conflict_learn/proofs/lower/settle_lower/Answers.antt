@@ -1,3 +1,4 @@
+-- Why `settle_lower` does what its contract says.
 use Rattle.std.proofs.Common.{ℕ, arith}
 use Rattle.std.proofs.lemmas.List.Sorted.{IsNonDecreasingBy-from_sort}
 use Rattle.conflict_learn.proofs.LowerLemmas.{listed_sorted, marked_touched}

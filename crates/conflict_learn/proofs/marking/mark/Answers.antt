@@ -1,3 +1,4 @@
+-- Why `mark` does what its contract says.
 use Rattle.std.proofs.Common.{cond, ◌∙◌, ap, sym}
 use Rattle.std.specs.Prelude.{nat_eq}
 use Rattle.conflict_learn.proofs.WorkLemmas.{MarksOf-new, bool_byte_is}

@@ -1,3 +1,4 @@
+-- Why `mark_all` does what its contract says.
 use Rattle.std.proofs.Common.{◌+◌, ◌∷◌, [], take, arith, sym, subst, ◌∙◌}
 use Rattle.std.proofs.lemmas.List.{take_more}
 use Rattle.conflict_learn.specs.Working.{MarksOf}

@@ -1,3 +1,4 @@
+-- What the loop of `mark_all` keeps from turn to turn.
 use Rattle.std.specs.Prelude.{take, ◌≤◌}
 use Rattle.conflict_learn.specs.Working.{MarksOf}
 use Rattle.conflict_learn.proofs.marking.mark_all.Given as goal

@@ -1,3 +1,4 @@
+-- Why `unmark` does what its contract says.
 use Rattle.std.proofs.Common.{refl, arith, ◌∙◌}
 use Rattle.std.proofs.lemmas.List.{length-set}
 use Rattle.conflict_learn.proofs.MarkLemmas.{left_first, left_more, left_none}

@@ -1,3 +1,4 @@
+-- What the loop of `unmark` keeps from turn to turn.
 use Rattle.std.specs.Prelude.{◌≡◌, length}
 use Rattle.conflict_learn.proofs.MarkLemmas.{IsLeftFrom}
 use Rattle.conflict_learn.proofs.marks.unmark.Given as goal

@@ -1,3 +1,4 @@
+-- What the loop of `read_list` keeps from turn to turn.
 use Rattle.derivation_log.proofs.ListLemmas.{IsPartlyRead}
 use Rattle.derivation_log.proofs.list.read_list.Given as goal
 

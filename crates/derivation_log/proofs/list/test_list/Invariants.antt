@@ -1,3 +1,4 @@
+-- What the loop of `test_list` keeps from turn to turn.
 use Rattle.std.specs.Prelude.{length}
 use Rattle.derivation_log.proofs.ListLemmas.{IsSoFar}
 use Rattle.derivation_log.proofs.list.test_list.Given as goal

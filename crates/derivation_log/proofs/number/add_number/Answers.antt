@@ -1,3 +1,4 @@
+-- Why `add_number` does what its contract says.
 use Rattle.std.proofs.Common.{◌≡◌, ◌∷◌, ◌++◌, [], ap, ◌∙◌}
 use Rattle.std.specs.Prelude.{decimal}
 use Rattle.vss_io.proofs.CallLaws.{PrintsAllBut-stopped, PrintsAllBut-then}

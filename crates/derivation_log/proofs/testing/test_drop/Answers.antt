@@ -1,3 +1,4 @@
+-- Why `test_drop` does what its contract says.
 use Rattle.derivation_log.proofs.StepLemmas.{no_drop, no_ids, found_drop}
 use Rattle.derivation_log.proofs.testing.test_drop.Goals as goal
 

@@ -1,3 +1,4 @@
+-- Why `add_clause` does what its contract says.
 use Rattle.std.proofs.Common.{◌∷◌, ◌++◌, [], List, ℕ, refl, append_assoc}
 use Rattle.std.specs.Prelude.{decimal}
 use Rattle.derivation_log.specs.Text.{number_text, literal_text, list_text}

@@ -1,3 +1,4 @@
+-- Why `add_drop` does what its contract says.
 use Rattle.std.proofs.Common.{◌∷◌, [], refl}
 use Rattle.derivation_log.specs.Text.{number_text, list_text}
 use Rattle.vss_io.proofs.CallLaws.{PrintsAllBut-stopped, PrintsAllBut-then}

@@ -1,3 +1,4 @@
+-- Why `add_list` does what its contract says.
 use Rattle.std.proofs.Common.{arith}
 use Rattle.vss_io.proofs.CallLaws.{HasPrinted-nothing, HasPrinted-more, HasPrinted-stopped, HasPrinted-kept}
 use Rattle.derivation_log.proofs.WriteLemmas.{next_word_read, no_word_left}

@@ -1,3 +1,4 @@
+-- What the loop of `add_list` keeps from turn to turn.
 use Rattle.std.proofs.Common.{◌++◌, drop}
 use Rattle.vss_io.specs.Written.{HasPrinted}
 use Rattle.derivation_log.specs.Text.{list_text}

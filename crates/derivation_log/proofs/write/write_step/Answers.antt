@@ -1,3 +1,4 @@
+-- Why `write_step` does what its contract says.
 use Rattle.std.proofs.Common.{◌∷◌, [], refl}
 use Rattle.vss_io.proofs.CallLaws.{PrintsAllBut-broken, PrintsAllBut-ended}
 use Rattle.derivation_log.proofs.write.write_step.Goals as goal

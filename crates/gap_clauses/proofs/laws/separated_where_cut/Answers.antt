@@ -1,3 +1,4 @@
+-- Why `separated_where_cut` does what its contract says.
 use Rattle.gap_clauses.proofs.Shortening.{cut_separates}
 use Rattle.gap_clauses.proofs.laws.separated_where_cut.Goals as goal
 

@@ -1,3 +1,4 @@
+-- What the loop of `emit` keeps from turn to turn.
 use Rattle.std.proofs.Common.{◌++◌, ◌∷◌, []}
 use Rattle.gate_tables.specs.Gates.{clauses_of}
 use Rattle.gate_tables.proofs.EmitLemmas.{IsEmitted}

@@ -1,3 +1,4 @@
+-- Why `push_clause` does what its contract says.
 use Rattle.std.proofs.Common.{◌≡◌, ◌+◌, ◌++◌, ◌∷◌, [], length, arith, length-append, subst, sym}
 use Rattle.sat_core.specs.Clauses.{IsClause}
 use Rattle.gate_tables.specs.Gates.{lits_of}

@@ -1,3 +1,4 @@
+-- What the loop of `wired_lits` keeps from turn to turn.
 use Rattle.std.proofs.Common.{◌≡◌, ◌∷◌, [], ◌++◌, length, map, take}
 use Rattle.gate_tables.specs.Wiring.{at_pin}
 use Rattle.gate_tables.proofs.wiring.wired_lits.Given as goal

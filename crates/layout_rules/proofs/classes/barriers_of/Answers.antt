@@ -1,3 +1,4 @@
+-- Why `barriers_of` does what its contract says.
 use Rattle.std.proofs.Common.{◌≡◌, take, arith}
 use Rattle.std.proofs.lemmas.List.{take_more, take_all}
 use Rattle.layout_rules.proofs.ClassLemmas.{barriers_push}

@@ -1,3 +1,4 @@
+-- Why `classes_of` does what its contract says.
 use Rattle.std.proofs.Common.{◌≡◌, ◌∙◌, ap, length, arith}
 use Rattle.std.proofs.lemmas.List.{length-map}
 use Rattle.layout_rules.proofs.ClassLemmas.{classes_from_groups}

@@ -1,3 +1,4 @@
+-- What the loop of `follow_each_other` keeps from turn to turn.
 use Rattle.std.specs.List.{AllAdjacentBelow}
 use Rattle.cell_net.specs.Space.{Follows}
 use Rattle.layout_rules.proofs.paths.follow_each_other.Given as goal

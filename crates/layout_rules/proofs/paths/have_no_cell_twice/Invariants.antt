@@ -1,3 +1,4 @@
+-- What the loop of `have_no_cell_twice` keeps from turn to turn.
 use Rattle.layout_rules.proofs.SeenCells.{MarksSeen}
 use Rattle.layout_rules.proofs.paths.have_no_cell_twice.Given as goal
 

@@ -1,3 +1,4 @@
+-- Why `nothing_seen` does what its contract says.
 use Rattle.std.proofs.Common.{◌≡◌, inl, inr, false, replicate, slice_index_or}
 use Rattle.std.proofs.lemmas.List.{get_or-replicate}
 use Rattle.std.proofs.Math.ListN.{get_or-eq_default}

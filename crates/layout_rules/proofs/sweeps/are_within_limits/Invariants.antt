@@ -1,3 +1,4 @@
+-- What the loop of `are_within_limits` keeps from turn to turn.
 use Rattle.std.specs.List.{AllWithin}
 use Rattle.cell_net.specs.Runs.{IsWithinLimit}
 use Rattle.layout_rules.proofs.sweeps.are_within_limits.Given as goal

@@ -1,3 +1,4 @@
+-- What the loop of `unmark` keeps from turn to turn.
 use Rattle.std.specs.Prelude.{drop}
 use Rattle.log_checker.proofs.AssignedLemmas.{AreLeft}
 use Rattle.log_checker.proofs.assignment.unmark.Given as goal

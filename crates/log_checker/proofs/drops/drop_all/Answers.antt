@@ -1,3 +1,4 @@
+-- Why `drop_all` does what its contract says.
 use Rattle.std.proofs.Common.{◌<◌, length, arith, take}
 use Rattle.std.proofs.lemmas.List.{take_more}
 use Rattle.log_checker.proofs.DropLemmas.{CanDrop-not, CanDrop-more, DropsAlso-more, DropsAlso-same, SameDrops-revived}

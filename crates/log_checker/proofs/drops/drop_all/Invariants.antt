@@ -1,3 +1,4 @@
+-- What the loop of `drop_all` keeps from turn to turn.
 use Rattle.std.specs.Prelude.{take}
 use Rattle.log_checker.specs.Drops.{CanDrop, DropsAlso}
 use Rattle.log_checker.proofs.drops.drop_all.Given as goal

@@ -1,3 +1,4 @@
+-- Why `drop_one` does what its contract says.
 use Rattle.std.proofs.Common.{sym}
 use Rattle.log_checker.proofs.DropLemmas.{DropsAlso-one, IsLiveNumber-at, IsLiveNumber-gone, IsLiveNumber-missing}
 use Rattle.log_checker.proofs.drops.drop_one.Goals as goal

@@ -1,3 +1,4 @@
+-- What the loop of `revive_all` keeps from turn to turn.
 use Rattle.std.specs.Prelude.{take}
 use Rattle.log_checker.specs.Drops.{Revives}
 use Rattle.log_checker.proofs.drops.revive_all.Given as goal

@@ -1,3 +1,4 @@
+-- Why `revive_one` does what its contract says.
 use Rattle.log_checker.proofs.DropLemmas.{Revives-one}
 use Rattle.log_checker.proofs.drops.revive_one.Goals as goal
 

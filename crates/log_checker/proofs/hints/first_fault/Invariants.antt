@@ -1,3 +1,4 @@
+-- What the loop of `first_fault` keeps from turn to turn.
 use Rattle.std.specs.Prelude.{◌≡◌, drop}
 use Rattle.sat_core.specs.Hints.{hints_fault}
 use Rattle.log_checker.proofs.hints.first_fault.Given as goal

@@ -1,3 +1,4 @@
+-- Why `read_clause` does what its contract says.
 use Rattle.std.proofs.Common.{◌≡◌, arith, ap, sym, subst, ◌∙◌}
 use Rattle.std.specs.Option.{option_to_list}
 use Rattle.sat_core.specs.Clauses.{IsOver}

@@ -1,3 +1,4 @@
+-- What the loop of `read_clause` keeps from turn to turn.
 use Rattle.std.specs.Prelude.{◌≡◌, take}
 use Rattle.std.specs.Option.{option_to_list}
 use Rattle.sat_core.specs.Hints.{not_false}

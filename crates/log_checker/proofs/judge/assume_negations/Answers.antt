@@ -1,3 +1,4 @@
+-- Why `assume_negations` does what its contract says.
 use Rattle.std.proofs.Common.{◌≡◌, ◌++◌, ◌∷◌, [], ◌+◌, map, take, arith, ap, sym, ◌∙◌}
 use Rattle.std.proofs.lemmas.List.{map_more}
 use Rattle.sat_core.specs.Clauses.{negated}

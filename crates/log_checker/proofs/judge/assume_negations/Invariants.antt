@@ -1,3 +1,4 @@
+-- What the loop of `assume_negations` keeps from turn to turn.
 use Rattle.std.specs.Prelude.{◌≡◌, take, map}
 use Rattle.sat_core.specs.Clauses.{negated, HasNoVariableTwice}
 use Rattle.log_checker.proofs.judge.assume_negations.Given as goal

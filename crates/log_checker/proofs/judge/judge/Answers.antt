@@ -1,3 +1,4 @@
+-- Why `judge` does what its contract says.
 use Rattle.std.proofs.Common.{◌≡◌, List, arith, ap, sym, map, subst, refl, ◌∙◌}
 use Rattle.std.specs.Prelude.{Some, All}
 use Rattle.sat_core.specs.declared.literal.Lit.{Lit}

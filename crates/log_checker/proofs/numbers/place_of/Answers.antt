@@ -1,3 +1,4 @@
+-- Why `place_of` does what its contract says.
 use Rattle.std.proofs.Common.{◌≡◌, arith, ◌∙◌}
 use Rattle.log_checker.proofs.NumberLemmas.{AscendsTo-pairs, number_at-positive}
 use Rattle.log_checker.proofs.numbers.place_of.Goals as goal

@@ -1,3 +1,4 @@
+-- Why `search` does what its contract says.
 use Rattle.std.proofs.Common.{◌≡◌, arith, subst}
 use Rattle.log_checker.proofs.NumberLemmas.{IsBetween, IsBetween-low, IsBetween-high, IsBetween-missing}
 use Rattle.log_checker.proofs.numbers.search.Goals as goal

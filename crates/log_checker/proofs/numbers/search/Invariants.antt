@@ -1,3 +1,4 @@
+-- What the loop of `search` keeps from turn to turn.
 use Rattle.std.proofs.Common.{◌-◌}
 use Rattle.log_checker.proofs.NumberLemmas.{IsBetween}
 use Rattle.log_checker.proofs.numbers.search.Given as goal

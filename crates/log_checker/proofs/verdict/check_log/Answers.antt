@@ -1,3 +1,4 @@
+-- Why `check_log` does what its contract says.
 use Rattle.std.proofs.Common.{arith, subst, sym}
 use Rattle.sat_core.specs.Derivation.{database_of}
 use Rattle.derivation_log.specs.Steps.{derived_steps}

@@ -1,3 +1,4 @@
+-- What the loop of `check_log` keeps from turn to turn.
 use Rattle.std.specs.Prelude.{◌≡◌, take}
 use Rattle.sat_core.specs.Derivation.{database_of, after_all, AreAccepted}
 use Rattle.derivation_log.specs.Steps.{derived_steps}

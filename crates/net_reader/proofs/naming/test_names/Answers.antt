@@ -1,3 +1,4 @@
+-- Why `test_names` does what its contract says.
 use Rattle.vss_lists.specs.Orders.{IsFirstBroken}
 use Rattle.net_reader.proofs.naming.test_names.Goals as goal
 

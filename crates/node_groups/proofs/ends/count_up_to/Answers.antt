@@ -1,3 +1,4 @@
+-- Why `count_up_to` does what its contract says.
 use Rattle.std.proofs.Common.{rules, leb}
 use Rattle.std.proofs.lemmas.List.Sorted.{IsPartitionPoint-from_clause, IsPartitionedBy-leb}
 use Rattle.node_groups.specs.declared.ends.End.{End}

@@ -1,3 +1,4 @@
+-- Why `ends_at` does what its contract says.
 use Rattle.std.proofs.lemmas.List.{take_rest}
 use Rattle.node_groups.proofs.EndLemmas.{nodes_rise}
 use Rattle.node_groups.proofs.StretchLemmas.{rest_rises, stretch_at}

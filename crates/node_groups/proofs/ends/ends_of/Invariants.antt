@@ -1,3 +1,4 @@
+-- What the loop of `ends_of` keeps from turn to turn.
 use Rattle.std.proofs.Common.{◌≡◌, ◌++◌, drop}
 use Rattle.node_groups.specs.Ends.{ends_from}
 use Rattle.node_groups.proofs.ends.ends_of.Given as goal

@@ -1,3 +1,4 @@
+-- Why `sorted_ends` does what its contract says.
 use Rattle.std.proofs.Common.{IsPermutation}
 use Rattle.node_groups.specs.Ends.{ends_from}
 use Rattle.node_groups.proofs.EndLemmas.{IsInOrder_from_sort, ends_of_segments}

@@ -1,3 +1,4 @@
+-- Why `flatten` does what its contract says.
 use Rattle.std.proofs.Common.{arith}
 use Rattle.node_groups.proofs.ForestLaws.{JoinsAlike-refl, JoinsAlike-trans, flat_more}
 use Rattle.node_groups.proofs.forest.flatten.Goals as goal

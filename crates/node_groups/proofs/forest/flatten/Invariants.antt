@@ -1,3 +1,4 @@
+-- What the loop of `flatten` keeps from turn to turn.
 use Rattle.std.proofs.Common.{ℕ, ◌<◌, get_or}
 use Rattle.node_groups.specs.Forest.{IsForest, IsRoot, JoinsAlike}
 use Rattle.node_groups.proofs.forest.flatten.Given as goal

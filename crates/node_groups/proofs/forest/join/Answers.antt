@@ -1,3 +1,4 @@
+-- Why `join` does what its contract says.
 use Rattle.node_groups.proofs.ForestLaws.{JoinsAlike-trans, AddsPair_linked, AddsPair_flipped, AddsPair_after, joined_after}
 use Rattle.node_groups.proofs.forest.join.Goals as goal
 

@@ -1,3 +1,4 @@
+-- Why `root_of` does what its contract says.
 use Rattle.std.proofs.Common.{arith}
 use Rattle.node_groups.proofs.ForestLaws.{Joined-refl, JoinsAlike-refl, JoinsAlike-trans, joined_up}
 use Rattle.node_groups.proofs.forest.root_of.Goals as goal

@@ -1,3 +1,4 @@
+-- What the loop of `root_of` keeps from turn to turn.
 use Rattle.std.proofs.Common.{◌<◌, length}
 use Rattle.node_groups.specs.Forest.{IsForest, Joined, JoinsAlike, KeepsRoots}
 use Rattle.node_groups.proofs.forest.root_of.Given as goal

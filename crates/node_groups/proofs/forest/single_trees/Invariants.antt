@@ -1,3 +1,4 @@
+-- What the loop of `single_trees` keeps from turn to turn.
 use Rattle.std.proofs.Common.{◌≡◌, length}
 use Rattle.node_groups.specs.Forest.{AreAllRoots}
 use Rattle.node_groups.proofs.forest.single_trees.Given as goal

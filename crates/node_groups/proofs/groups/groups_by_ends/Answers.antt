@@ -1,3 +1,4 @@
+-- Why `groups_by_ends` does what its contract says.
 use Rattle.std.proofs.Common.{arith}
 use Rattle.node_groups.proofs.GroupLemmas.{JoinsBy_alike, flat_same, flat_lowest, written_back}
 use Rattle.node_groups.proofs.groups.groups_by_ends.Goals as goal

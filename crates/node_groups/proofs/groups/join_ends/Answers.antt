@@ -1,3 +1,4 @@
+-- Why `join_ends` does what its contract says.
 use Rattle.std.proofs.Common.{refl, arith}
 use Rattle.node_groups.proofs.GroupLemmas.{so_far_first, so_far_apart, so_far_joined, so_far_last}
 use Rattle.node_groups.proofs.groups.join_ends.Goals as goal

@@ -1,3 +1,4 @@
+-- What the loop of `join_ends` keeps from turn to turn.
 use Rattle.node_groups.proofs.GroupLemmas.{JoinedSoFar}
 use Rattle.node_groups.proofs.groups.join_ends.Given as goal
 

@@ -1,3 +1,4 @@
+-- Why `first_split_part` does what its contract says.
 use Rattle.std.proofs.Common.{◌∙◌, ap, length, []}
 use Rattle.std.proofs.lemmas.List.Sorted.{IsPermutation-refl}
 use Rattle.node_groups.specs.Ends.{AreEndsOf}

@@ -1,3 +1,4 @@
+-- Why `split_part` does what its contract says.
 use Rattle.std.proofs.Common.{arith}
 use Rattle.node_groups.proofs.SplitLemmas.{one_group_first, one_group_more, one_group_all, one_group_fails}
 use Rattle.node_groups.proofs.parts.split_part.Goals as goal

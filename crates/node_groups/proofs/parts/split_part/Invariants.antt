@@ -1,3 +1,4 @@
+-- What the loop of `split_part` keeps from turn to turn.
 use Rattle.node_groups.proofs.SplitLemmas.{OneGroupBelow}
 use Rattle.node_groups.proofs.parts.split_part.Given as goal
 

@@ -1,3 +1,4 @@
+-- Why `conflict` does what its contract says.
 use Rattle.std.proofs.Common.{◌+◌, List, [], ◌∷◌, ◌++◌, refl, arith, ap, sym, ◌∙◌}
 use Rattle.std.specs.Prelude.{Option, None}
 use Rattle.sat_core.specs.declared.literal.Lit.{Lit}

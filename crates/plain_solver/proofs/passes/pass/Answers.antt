@@ -1,3 +1,4 @@
+-- Why `pass` does what its contract says.
 use Rattle.std.proofs.Common.{◌<◌, length, arith, refl}
 use Rattle.search_trail.specs.Trails.{known_of}
 use Rattle.plain_solver.proofs.PassLemmas.{clause_at, unit_over, passing_rest, passing_unit, passing_conflict}

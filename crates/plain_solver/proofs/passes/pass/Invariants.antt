@@ -1,3 +1,4 @@
+-- What the loop of `pass` keeps from turn to turn.
 use Rattle.plain_solver.proofs.PassLemmas.{IsPassing}
 use Rattle.plain_solver.proofs.passes.pass.Given as goal
 

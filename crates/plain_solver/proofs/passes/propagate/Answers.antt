@@ -1,3 +1,4 @@
+-- Why `propagate` does what its contract says.
 use Rattle.search_trail.proofs.TrailLaws.{Grows-on}
 use Rattle.plain_solver.proofs.passes.propagate.Goals as goal
 

@@ -1,3 +1,4 @@
+-- What the loop of `propagate` keeps from turn to turn.
 use Rattle.std.specs.Prelude.{◌≡◌, ◌-◌, length}
 use Rattle.search_trail.specs.Trails.{Grows}
 use Rattle.plain_solver.specs.Plain.{IsPlain}

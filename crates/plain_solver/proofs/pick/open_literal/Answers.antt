@@ -1,3 +1,4 @@
+-- Why `open_literal` does what its contract says.
 use Rattle.std.proofs.Common.{inl, inr}
 use Rattle.search_trail.specs.Trails.{known_of}
 use Rattle.plain_solver.proofs.FullLemmas.{told_more}

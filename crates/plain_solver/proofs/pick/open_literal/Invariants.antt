@@ -1,3 +1,4 @@
+-- What the loop of `open_literal` keeps from turn to turn.
 use Rattle.search_trail.specs.Trails.{known_of}
 use Rattle.plain_solver.proofs.FullLemmas.{AreToldTo}
 use Rattle.plain_solver.proofs.pick.open_literal.Given as goal

@@ -1,3 +1,4 @@
+-- What the loop of `show` keeps from turn to turn.
 use Rattle.std.specs.Prelude.{◌≡◌, length}
 use Rattle.search_trail.specs.Trails.{known_of}
 use Rattle.plain_solver.proofs.FullLemmas.{AreTruthsTo}

@@ -1,3 +1,4 @@
+-- Why `read_clause` does what its contract says.
 use Rattle.std.proofs.Common.{arith, sym, subst, ◌∙◌}
 use Rattle.std.specs.Prelude.{None}
 use Rattle.search_trail.specs.Trails.{known_of}

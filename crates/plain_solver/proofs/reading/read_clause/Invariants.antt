@@ -1,3 +1,4 @@
+-- What the loop of `read_clause` keeps from turn to turn.
 use Rattle.std.specs.Prelude.{take}
 use Rattle.search_trail.specs.Trails.{known_of}
 use Rattle.plain_solver.specs.Plain.{SoFar}

@@ -1,3 +1,4 @@
+-- Why `ended` does what its contract says.
 use Rattle.plain_solver.proofs.StepLemmas.{refuted_of, spent_of}
 use Rattle.std.proofs.Common.{false, ◌∙◌, sym}
 use Rattle.plain_solver.proofs.search.ended.Goals as goal

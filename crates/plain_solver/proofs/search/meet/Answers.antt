@@ -1,3 +1,4 @@
+-- Why `meet` does what its contract says.
 use Rattle.plain_solver.proofs.StepLemmas.{met_searched}
 use Rattle.plain_solver.proofs.search.meet.Goals as goal
 

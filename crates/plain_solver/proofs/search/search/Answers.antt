@@ -1,3 +1,4 @@
+-- Why `search` does what its contract says.
 use Rattle.std.proofs.Common.{false, arith}
 use Rattle.solver_face.proofs.SolvingLaws.{searched_on}
 use Rattle.plain_solver.specs.States.{solving_of}

@@ -1,3 +1,4 @@
+-- What the loop of `search` keeps from turn to turn.
 use Rattle.std.specs.Prelude.{◌≡◌, ◌+◌, ◌^◌, ◌<◌, false, length}
 use Rattle.solver_face.specs.Solving.{Searched}
 use Rattle.plain_solver.specs.States.{IsState, solving_of, left_over}

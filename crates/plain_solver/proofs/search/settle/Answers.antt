@@ -1,3 +1,4 @@
+-- Why `settle` does what its contract says.
 use Rattle.plain_solver.proofs.FullLemmas.{settle_decide, settle_sat}
 use Rattle.plain_solver.proofs.search.settle.Goals as goal
 

@@ -1,3 +1,4 @@
+-- Why `begin` does what its contract says.
 use Rattle.std.proofs.Common.{false, refl, ap, subst, arith, ◌∙◌}
 use Rattle.std.specs.Prelude.{length}
 use Rattle.std.proofs.lemmas.List.{length-replicate}

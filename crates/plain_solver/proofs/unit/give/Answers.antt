@@ -1,3 +1,4 @@
+-- Why `give` does what its contract says.
 use Rattle.std.proofs.Common.{List, [], ◌∷◌, ◌++◌, refl, ap, ◌∙◌}
 use Rattle.std.specs.Prelude.{Option, Some}
 use Rattle.sat_core.specs.declared.literal.Lit.{Lit}

@@ -1,3 +1,4 @@
+-- Why `first_clash` does what its contract says.
 use Rattle.plan_checker.proofs.ClashLemmas.{is_sound}
 use Rattle.plan_checker.proofs.clashes.first_clash.Goals as goal
 

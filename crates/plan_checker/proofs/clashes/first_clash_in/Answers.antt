@@ -1,3 +1,4 @@
+-- Why `first_clash_in` does what its contract says.
 use Rattle.std.proofs.Common.{arith}
 use Rattle.plan_checker.proofs.ClashLemmas.{always_apart, first_step}
 use Rattle.plan_checker.proofs.clashes.first_clash_in.Goals as goal

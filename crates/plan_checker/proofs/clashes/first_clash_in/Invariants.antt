@@ -1,3 +1,4 @@
+-- What the loop of `first_clash_in` keeps from turn to turn.
 use Rattle.std.proofs.Common.{ℕ, ◌<◌}
 use Rattle.plan_checker.specs.ClashSearch.{AreAllApart}
 use Rattle.plan_checker.specs.ClassMarks.{AreEarlier}

@@ -1,3 +1,4 @@
+-- Why `first_bad_run` does what its contract says.
 use Rattle.std.proofs.Common.{length, refl, arith}
 use Rattle.std.proofs.lemmas.Option.{slice_get_read}
 use Rattle.plan_checker.proofs.JudgingLemmas.{runs_more, fails_here}

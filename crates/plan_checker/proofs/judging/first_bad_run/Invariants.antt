@@ -1,3 +1,4 @@
+-- What the loop of `first_bad_run` keeps from turn to turn.
 use Rattle.plan_checker.specs.Verdicts.{HaveRunsBelow}
 use Rattle.plan_checker.proofs.judging.first_bad_run.Given as goal
 

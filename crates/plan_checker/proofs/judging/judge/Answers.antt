@@ -1,3 +1,4 @@
+-- Why `judge` does what its contract says.
 use Rattle.std.proofs.Common.{refl, Ok, Err}
 use Rattle.std.specs.Prelude.{Result, OnErr}
 use Rattle.vss_lists.specs.Orders.{IsFirstBroken}

@@ -1,3 +1,4 @@
+-- Why `are_all_apart` does what its contract says.
 use Rattle.std.proofs.Common.{arith, rules}
 use Rattle.plan_checker.proofs.MarkLemmas.{apart_by_marks, earlier_later, no_trains_yet, trains_more}
 use Rattle.plan_checker.proofs.marks.are_all_apart.Goals as goal

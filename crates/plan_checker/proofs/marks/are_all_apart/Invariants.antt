@@ -1,3 +1,4 @@
+-- What the loop of `are_all_apart` keeps from turn to turn.
 use Rattle.std.proofs.Common.{ℕ, ◌+◌, ◌<◌}
 use Rattle.plan_checker.specs.ClassMarks.{AreEarlier, AreOfTrains, IsTrainMarked}
 use Rattle.plan_checker.proofs.marks.are_all_apart.Given as goal

@@ -1,3 +1,4 @@
+-- Why `is_free_for` does what its contract says.
 use Rattle.plan_checker.proofs.MarkLemmas.{free_if_same}
 use Rattle.plan_checker.proofs.marks.is_free_for.Goals as goal
 

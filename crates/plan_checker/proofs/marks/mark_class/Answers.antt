@@ -1,3 +1,4 @@
+-- Why `mark_class` does what its contract says.
 use Rattle.plan_checker.proofs.MarkLemmas.{earlier_more, keeps_where_free, marked_there, only_one_more, taken_where_not_free}
 use Rattle.plan_checker.proofs.marks.mark_class.Goals as goal
 

@@ -1,3 +1,4 @@
+-- Why `mark_sweep` does what its contract says.
 use Rattle.std.proofs.Common.{◌<◌, length, arith}
 use Rattle.std.proofs.lemmas.Option.{slice_get_within}
 use Rattle.plan_checker.proofs.MarkLemmas.{KeepsMarks-refl, KeepsMarks-trans, marked_more, one_taken, only_more, only_none}

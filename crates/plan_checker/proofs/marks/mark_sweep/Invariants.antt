@@ -1,3 +1,4 @@
+-- What the loop of `mark_sweep` keeps from turn to turn.
 use Rattle.std.proofs.Common.{◌+◌}
 use Rattle.vss_lists.specs.Breaks.{HoldsBelow}
 use Rattle.plan_checker.specs.ClassMarks.{AreEarlier, IsClassMarked, KeepsMarks, MarksOnly}

@@ -1,3 +1,4 @@
+-- Why `mark_train` does what its contract says.
 use Rattle.std.proofs.Common.{Bool, true, false}
 use Rattle.std.specs.Bool.{OnFalse}
 use Rattle.plan_checker.proofs.PairLemmas.{has_no_sweep, has_sweep}

@@ -1,3 +1,4 @@
+-- Why `first_clash_at` does what its contract says.
 use Rattle.std.proofs.Common.{arith}
 use Rattle.plan_checker.proofs.ClashLemmas.{all_apart, first_pair}
 use Rattle.plan_checker.proofs.pairs.first_clash_at.Goals as goal

@@ -1,3 +1,4 @@
+-- Why `first_clash_of` does what its contract says.
 use Rattle.std.proofs.Common.{arith}
 use Rattle.plan_checker.proofs.ClashLemmas.{apart_from_later}
 use Rattle.plan_checker.proofs.pairs.first_clash_of.Goals as goal

@@ -1,3 +1,4 @@
+-- Why `first_linked` does what its contract says.
 use Rattle.plan_checker.specs.ClashSearch.{IsSeparatedFromAll}
 use Rattle.plan_checker.proofs.ListSteps.{holds_more}
 use Rattle.plan_checker.proofs.PairLemmas.{linked_at, separated_from_each}

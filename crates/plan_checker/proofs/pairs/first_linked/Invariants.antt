@@ -1,3 +1,4 @@
+-- What the loop of `first_linked` keeps from turn to turn.
 use Rattle.vss_lists.specs.Breaks.{HoldsBelow}
 use Rattle.plan_checker.specs.ClashSearch.{IsSeparatedFromAll}
 use Rattle.plan_checker.proofs.pairs.first_linked.Given as goal

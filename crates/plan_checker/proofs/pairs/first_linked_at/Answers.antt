@@ -1,3 +1,4 @@
+-- Why `first_linked_at` does what its contract says.
 use Rattle.plan_checker.proofs.PairLemmas.{apart_without_first, apart_without_second, clash_or_apart, has_no_sweep, has_sweep}
 use Rattle.plan_checker.proofs.pairs.first_linked_at.Goals as goal
 

@@ -1,3 +1,4 @@
+-- What the loop of `first_linked_to` keeps from turn to turn.
 use Rattle.vss_lists.specs.Breaks.{HoldsBelow}
 use Rattle.plan_checker.specs.ClashSearch.{IsSeparated}
 use Rattle.plan_checker.proofs.pairs.first_linked_to.Given as goal

@@ -1,3 +1,4 @@
+-- Why `breach_of_run` does what its contract says.
 use Rattle.std.proofs.Common.{rules}
 use Rattle.vss_lists.specs.Orders.{IsFirstBroken}
 use Rattle.plan_checker.proofs.JudgingLemmas.{is_run}

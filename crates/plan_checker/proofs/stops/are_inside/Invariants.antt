@@ -1,3 +1,4 @@
+-- What the loop of `are_inside` keeps from turn to turn.
 use Rattle.std.specs.List.{AllWithin}
 use Rattle.cell_net.specs.Runs.{IsCellOf}
 use Rattle.cell_net.specs.declared.cells.DirCell.{DirCell}

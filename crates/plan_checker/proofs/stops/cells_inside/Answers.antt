@@ -1,3 +1,4 @@
+-- Why `cells_inside` does what its contract says.
 use Rattle.std.proofs.Common.{arith, subst, sym}
 use Rattle.plan_checker.specs.Stations.{MarksStation}
 use Rattle.plan_checker.proofs.StopLemmas.{station_marks, written_back}

@@ -1,3 +1,4 @@
+-- Why `mark` does what its contract says.
 use Rattle.std.proofs.Common.{◌≡◌, ◌∙◌, refl, take, arith}
 use Rattle.std.proofs.lemmas.List.{take_more, take_all, length-set}
 use Rattle.plan_checker.proofs.StopLemmas.{mark_more, marks_nothing}

@@ -1,3 +1,4 @@
+-- What the loop of `mark` keeps from turn to turn.
 use Rattle.std.proofs.Common.{◌≡◌, length, take}
 use Rattle.plan_checker.specs.Stations.{MarksCells}
 use Rattle.plan_checker.proofs.stops.mark.Given as goal

@@ -1,3 +1,4 @@
+-- What the loop of `no_marks` keeps from turn to turn.
 use Rattle.std.proofs.Common.{◌≡◌, ℕ, false, length, slice_index_or}
 use Rattle.plan_checker.proofs.stops.no_marks.Given as goal
 

@@ -1,3 +1,4 @@
+-- Why `stands_at` does what its contract says.
 use Rattle.std.proofs.Common.{sym}
 use Rattle.plan_checker.proofs.StopLemmas.{stands_there}
 use Rattle.plan_checker.proofs.stops.stands_at.Goals as goal

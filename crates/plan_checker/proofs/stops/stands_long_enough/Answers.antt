@@ -1,3 +1,4 @@
+-- Why `stands_long_enough` does what its contract says.
 use Rattle.std.proofs.Common.{◌≡◌, ◌+◌, arith, rules, true, false, subst}
 use Rattle.cell_net.specs.Runs.{IsMet, StandsIn}
 use Rattle.plan_checker.proofs.StreakLemmas.{Streak, streak_more, streak_break, streak_met, streak_end}

@@ -1,3 +1,4 @@
+-- What the loop of `stands_long_enough` keeps from turn to turn.
 use Rattle.std.proofs.Common.{◌+◌}
 use Rattle.cell_net.specs.Runs.{StandsIn}
 use Rattle.plan_checker.proofs.StreakLemmas.{Streak}

@@ -1,3 +1,4 @@
+-- What the loop of `agree` keeps from turn to turn.
 use Rattle.std.proofs.Common.{◌≡◌, take}
 use Rattle.plan_checker.proofs.sweeps.agree.Given as goal
 

@@ -1,3 +1,4 @@
+-- What the loop of `first_bad_sweep` keeps from turn to turn.
 use Rattle.vss_lists.specs.Breaks.{HoldsBelow}
 use Rattle.vss_lists.specs.Orders.{AreKept}
 use Rattle.plan_checker.specs.RunRules.{rules_of_sweep}

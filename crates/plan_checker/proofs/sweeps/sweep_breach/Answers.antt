@@ -1,3 +1,4 @@
+-- Why `sweep_breach` does what its contract says.
 use Rattle.std.proofs.Common.{rules}
 use Rattle.vss_lists.specs.Orders.{IsFirstBroken}
 use Rattle.plan_checker.proofs.RunLemmas.{fault_is_breach}

@@ -1,3 +1,4 @@
+-- Why `test_nodes` does what its contract says.
 use Rattle.std.proofs.Common.{refl}
 use Rattle.rail_net.specs.Refusals.{node_rules}
 use Rattle.rail_net.specs.declared.refusal.ListKind.TheVariants.{Nodes, Tracks}

@@ -1,3 +1,4 @@
+-- Why `test_numbers` does what its contract says.
 use Rattle.std.proofs.Common.{refl}
 use Rattle.rail_net.specs.Refusals.{number_rules}
 use Rattle.rail_net.specs.declared.refusal.ListKind.TheVariants.{Borders, Tracks}

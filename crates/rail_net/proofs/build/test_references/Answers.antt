@@ -1,3 +1,4 @@
+-- Why `test_references` does what its contract says.
 use Rattle.std.proofs.Common.{refl}
 use Rattle.rail_net.specs.Refusals.{reference_rules}
 use Rattle.rail_net.specs.Rules.{KnowsNodes, ListsTracks}

@@ -1,3 +1,4 @@
+-- Why `test_rules` does what its contract says.
 use Rattle.std.proofs.Common.{◌++◌}
 use Rattle.rail_net.specs.Refusals.{name_rules, reference_rules, node_rules, section_rules, number_rules}
 use Rattle.rail_net.proofs.OrderLemmas.{later, sooner, both_kept}

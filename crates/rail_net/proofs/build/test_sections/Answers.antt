@@ -1,3 +1,4 @@
+-- Why `test_sections` does what its contract says.
 use Rattle.std.proofs.Common.{refl}
 use Rattle.rail_net.specs.Refusals.{section_rules}
 use Rattle.rail_net.specs.Rules.{IsListed}

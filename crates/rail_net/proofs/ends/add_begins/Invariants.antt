@@ -1,3 +1,4 @@
+-- What the loop of `add_begins` keeps from turn to turn.
 use Rattle.std.proofs.Common.{◌≡◌, ◌<◌, ℕ, length, take, get_or}
 use Rattle.std.specs.Prelude.{◌==◌, count_by}
 use Rattle.rail_net.proofs.ends.add_begins.Given as goal

@@ -1,3 +1,4 @@
+-- Why `ends_of` does what its contract says.
 use Rattle.std.proofs.Common.{◌≡◌, ◌∷◌, [], ◌++◌, inl, inr, ◌<◌, ◌≤◌, ◌+◌, ℕ, List, length, slice_get, Some, subst, sym, ap, refl, ◌∙◌}
 use Rattle.std.proofs.lemmas.Option.{slice_get_read, same_Some}
 use Rattle.std.proofs.lemmas.List.{length_push}
@@ -7,7 +8,7 @@ use Rattle.rail_net.specs.Tables.{AreNodes}
 use Rattle.rail_net.specs.declared.ends.TrackEnds.{TrackEnds}
 use Rattle.rail_net.specs.declared.parts.NetParts.{NetParts}
 use Rattle.rail_net.specs.declared.parts.TrackPart.{TrackPart}
-use Rattle.rail_net.proofs.ListLemmas.{contains_at, push_at, holds_more, holds_all}
+use Rattle.rail_net.proofs.ListLaws.{contains_at, push_at, holds_more, holds_all}
 use Rattle.rail_net.proofs.ends.ends_of.Goals as goal
 
 -- one more track, with its nodes

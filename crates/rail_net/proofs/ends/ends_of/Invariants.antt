@@ -1,3 +1,4 @@
+-- What the loop of `ends_of` keeps from turn to turn.
 use Rattle.std.proofs.Common.{◌≡◌, ℕ, length, Some, slice_get}
 use Rattle.vss_lists.specs.Breaks.{HoldsBelow}
 use Rattle.rail_net.specs.Parts.{node_names}

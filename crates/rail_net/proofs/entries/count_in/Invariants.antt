@@ -1,3 +1,4 @@
+-- What the loop of `count_in` keeps from turn to turn.
 use Rattle.std.proofs.Common.{◌≡◌, ◌<◌, ℕ, length, take, get_or}
 use Rattle.rail_net.specs.Entries.{count_of}
 use Rattle.rail_net.proofs.entries.count_in.Given as goal

@@ -1,3 +1,4 @@
+-- Why `file_in` does what its contract says.
 use Rattle.std.proofs.Common.{◌<◌, length, get_or, take, set, Some, subst, sym, ◌∙◌, refl, arith}
 use Rattle.std.proofs.lemmas.List.{length-set, take_more, take_all}
 use Rattle.rail_net.specs.Entries.{AreValues}

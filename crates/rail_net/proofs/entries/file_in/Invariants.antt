@@ -1,3 +1,4 @@
+-- What the loop of `file_in` keeps from turn to turn.
 use Rattle.std.proofs.Common.{◌≡◌, length, take}
 use Rattle.rail_net.specs.Entries.{AreValues}
 use Rattle.rail_net.proofs.entries.file_in.Given as goal

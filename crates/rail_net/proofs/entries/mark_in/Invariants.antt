@@ -1,3 +1,4 @@
+-- What the loop of `mark_in` keeps from turn to turn.
 use Rattle.std.proofs.Common.{◌≡◌, length, take}
 use Rattle.rail_net.proofs.EntryLemmas.{AreMarked}
 use Rattle.rail_net.proofs.entries.mark_in.Given as goal

@@ -1,3 +1,4 @@
+-- What the loop of `flags` keeps from turn to turn.
 use Rattle.std.proofs.Common.{◌≡◌, take}
 use Rattle.rail_net.specs.Tables.{flags_of}
 use Rattle.rail_net.proofs.joining.flags.Given as goal

@@ -1,3 +1,4 @@
+-- Why `groups` does what its contract says.
 use Rattle.std.proofs.Common.{◌≡◌, length, sym, ap, ◌∙◌, arith}
 use Rattle.rail_net.specs.Tables.{segment_of, segments_from}
 use Rattle.rail_net.proofs.ZipLemmas.{length_zipped}

@@ -1,3 +1,4 @@
+-- Why `paired` does what its contract says.
 use Rattle.std.proofs.Common.{sym, ap, ◌∙◌, ◌++◌, ◌∷◌, [], get_or, arith}
 use Rattle.rail_net.specs.Tables.{under}
 use Rattle.rail_net.proofs.ZipLemmas.{zipped_more}

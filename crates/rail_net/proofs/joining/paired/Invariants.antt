@@ -1,3 +1,4 @@
+-- What the loop of `paired` keeps from turn to turn.
 use Rattle.std.proofs.Common.{◌≡◌, take}
 use Rattle.rail_net.specs.Tables.{paired}
 use Rattle.rail_net.proofs.joining.paired.Given as goal

@@ -1,3 +1,4 @@
+-- Why `segments` does what its contract says.
 use Rattle.std.proofs.Common.{sym, ap, ◌∙◌, ◌++◌, ◌∷◌, [], get_or, arith}
 use Rattle.rail_net.specs.Tables.{segment_of}
 use Rattle.rail_net.proofs.ZipLemmas.{zipped_more}

@@ -1,3 +1,4 @@
+-- What the loop of `segments` keeps from turn to turn.
 use Rattle.std.proofs.Common.{◌≡◌, take}
 use Rattle.rail_net.specs.Tables.{segments_from}
 use Rattle.rail_net.proofs.joining.segments.Given as goal

@@ -1,3 +1,4 @@
+-- Why `spread` does what its contract says.
 use Rattle.std.proofs.Common.{◌≡◌, List, sym, ap, ◌∙◌, ◌++◌, ◌∷◌, [], get_or, arith, append_assoc}
 use Rattle.rail_net.specs.Tables.{under, under_both}
 use Rattle.rail_net.specs.declared.ends.TrackEnds.{TrackEnds}

@@ -1,3 +1,4 @@
+-- What the loop of `spread` keeps from turn to turn.
 use Rattle.std.proofs.Common.{◌≡◌, take}
 use Rattle.rail_net.specs.Tables.{spread}
 use Rattle.rail_net.proofs.joining.spread.Given as goal

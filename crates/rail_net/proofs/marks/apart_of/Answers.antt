@@ -1,8 +1,8 @@
-use Rattle.std.proofs.Common.{◌≡◌, ◌<◌, List, subst, sym, ap, ◌∙◌}
+-- Why `apart_of` does what its contract says.
+use Rattle.std.proofs.Common.{◌≡◌, ◌<◌, subst, sym, ap, ◌∙◌}
 use Rattle.std.specs.List.{All}
 use Rattle.rail_net.specs.Entries.{AreMixed}
 use Rattle.rail_net.specs.Tables.{paired}
-use Rattle.rail_net.specs.declared.entries.Entry.{Entry}
 use Rattle.rail_net.proofs.NodeLemmas.{keys_below}
 use Rattle.rail_net.proofs.SectionLemmas.{are_apart, paired_keys}
 use Rattle.rail_net.proofs.marks.apart_of.Goals as goal

@@ -1,5 +1,6 @@
-use Rattle.std.proofs.Common.{◌≡◌, ◌<◌, ◌+◌, ℕ, subst, sym, ap, ◌∙◌, arith}
-use Rattle.std.specs.Prelude.{slice_index, count_by, bytes_eq}
+-- Why `degrees_of` does what its contract says.
+use Rattle.std.proofs.Common.{◌≡◌, ◌<◌, ◌+◌, subst, sym, ap, ◌∙◌}
+use Rattle.std.specs.Prelude.{slice_index}
 use Rattle.rail_net.specs.Parts.{node_names}
 use Rattle.rail_net.specs.Rules.{begin_count, end_count}
 use Rattle.rail_net.proofs.NodeLemmas.{from_within, to_within, node_within, one_node, begins_same, ends_same}

@@ -1,9 +1,10 @@
-use Rattle.std.proofs.Common.{◌≡◌, ◌<◌, length, subst, sym, ◌∙◌}
+-- Why `listing_counts` does what its contract says.
+use Rattle.std.proofs.Common.{◌<◌, length, subst, sym, ◌∙◌}
 use Rattle.std.proofs.lemmas.List.{length-map}
 use Rattle.std.proofs.lemmas.Option.{slice_get_within}
 use Rattle.rail_net.specs.Parts.{track_names}
 use Rattle.rail_net.specs.declared.parts.TrackPart.{TrackPart}
-use Rattle.rail_net.proofs.NameLemmas.{same_number}
+use Rattle.rail_net.proofs.NameLaws.{same_number}
 use Rattle.rail_net.proofs.ListingLemmas.{listing_keys, listing_count}
 use Rattle.rail_net.proofs.marks.listing_counts.Goals as goal
 

@@ -1,3 +1,4 @@
+-- Why `splits_of` does what its contract says.
 use Rattle.std.proofs.Common.{◌<◌, subst, sym, ◌∙◌}
 use Rattle.std.specs.List.{All}
 use Rattle.rail_net.specs.Entries.{AreMixed}

@@ -1,3 +1,4 @@
+-- What the loop of `zeros` keeps from turn to turn.
 use Rattle.std.proofs.Common.{◌≡◌, map}
 use Rattle.std.specs.List.{range_with_len}
 use Rattle.rail_net.specs.Tables.{zero_under}

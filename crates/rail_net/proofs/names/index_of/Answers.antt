@@ -1,10 +1,11 @@
+-- Why `index_of` does what its contract says.
 use Rattle.std.proofs.Common.{◌≡◌, ◌++◌, ◌∷◌, [], true, false, length, map, string_bytes, slice_get, Some, subst, sym, ap, refl, ◌∙◌, arith}
 use Rattle.std.specs.Prelude.{if◌then◌else◌, bytes_eq}
 use Rattle.std.specs.List.{Contains, list_any}
 use Rattle.std.proofs.lemmas.Option.{slice_get_read}
 use Rattle.rail_net.specs.Rules.{HasNewName}
-use Rattle.rail_net.proofs.ListLemmas.{holds_more, holds_all}
-use Rattle.rail_net.proofs.NameLemmas.{any_named, none_named, new_here, old_here, names_more, keys_more, was_there, was_new}
+use Rattle.rail_net.proofs.ListLaws.{holds_more, holds_all}
+use Rattle.rail_net.proofs.NameLaws.{any_named, none_named, new_here, old_here, names_more, keys_more, was_there, was_new}
 use Rattle.rail_net.proofs.names.index_of.Goals as goal
 
 pub returns-in-Ok-default-false-clause-old : goal.returns-in-Ok-default-false-clause-old

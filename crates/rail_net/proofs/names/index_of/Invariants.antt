@@ -1,3 +1,4 @@
+-- What the loop of `index_of` keeps from turn to turn.
 use Rattle.std.proofs.Common.{◌≡◌, map, take, string_bytes}
 use Rattle.vss_lists.specs.Breaks.{HoldsBelow}
 use Rattle.rail_net.specs.Rules.{HasNewName}

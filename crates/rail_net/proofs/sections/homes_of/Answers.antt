@@ -1,4 +1,5 @@
-use Rattle.std.proofs.Common.{◌≡◌, length, map, sym, ◌∙◌}
+-- Why `homes_of` does what its contract says.
+use Rattle.std.proofs.Common.{sym, ◌∙◌}
 use Rattle.std.proofs.lemmas.List.{length-map}
 use Rattle.rail_net.specs.declared.parts.TrackPart.{TrackPart}
 use Rattle.rail_net.proofs.ListingLemmas.{listing_keys}

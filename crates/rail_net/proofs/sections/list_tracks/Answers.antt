@@ -1,11 +1,12 @@
-use Rattle.std.proofs.Common.{◌≡◌, ◌<◌, ◌≤◌, ◌∷◌, [], ◌++◌, ◌+◌, ℕ, List, length, take, get_or, slice_get, Some, subst, sym, ap, refl, ◌∙◌, arith}
+-- Why `list_tracks` does what its contract says.
+use Rattle.std.proofs.Common.{◌≡◌, ◌<◌, ◌≤◌, ◌∷◌, [], ◌++◌, ◌+◌, ℕ, List, length, take, get_or, slice_get, Some, subst, sym, ap, refl, ◌∙◌}
 use Rattle.std.specs.List.{Contains}
 use Rattle.std.proofs.lemmas.Option.{slice_get_read, slice_get_within, get_or_from_slice_get}
 use Rattle.std.proofs.lemmas.List.{take_more, take_all}
 use Rattle.rail_net.specs.Rules.{AreKnown}
 use Rattle.rail_net.specs.Tables.{AddsListings}
 use Rattle.rail_net.specs.declared.entries.Entry.{Entry}
-use Rattle.rail_net.proofs.ListLemmas.{contains_at}
+use Rattle.rail_net.proofs.ListLaws.{contains_at}
 use Rattle.rail_net.proofs.ListingLemmas.{adds_none, adds_more, known_none, known_more, known_at}
 use Rattle.rail_net.proofs.sections.list_tracks.Goals as goal
 

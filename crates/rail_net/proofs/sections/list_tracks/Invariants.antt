@@ -1,3 +1,4 @@
+-- What the loop of `list_tracks` keeps from turn to turn.
 use Rattle.std.proofs.Common.{take}
 use Rattle.rail_net.specs.Rules.{AreKnown}
 use Rattle.rail_net.specs.Tables.{AddsListings}

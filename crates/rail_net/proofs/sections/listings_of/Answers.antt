@@ -1,10 +1,11 @@
-use Rattle.std.proofs.Common.{◌≡◌, ◌<◌, ◌≤◌, ◌+◌, true, false, ℕ, List, length, get_or, slice_get, Some, subst, sym, refl}
+-- Why `listings_of` does what its contract says.
+use Rattle.std.proofs.Common.{◌≡◌, ◌<◌, ◌≤◌, ℕ, List, length, get_or, slice_get, Some, subst, sym, refl}
 use Rattle.std.proofs.lemmas.Option.{slice_get_read}
 use Rattle.rail_net.specs.Parts.{track_names}
 use Rattle.rail_net.specs.Rules.{AreKnown, ListsTracks}
 use Rattle.rail_net.specs.Tables.{AddsListings}
 use Rattle.rail_net.specs.declared.parts.GroupPart.{GroupPart}
-use Rattle.rail_net.proofs.ListLemmas.{holds_more, holds_all}
+use Rattle.rail_net.proofs.ListLaws.{holds_more, holds_all}
 use Rattle.rail_net.proofs.ListingLemmas.{section_more, listings_all}
 use Rattle.rail_net.proofs.sections.listings_of.Goals as goal
 

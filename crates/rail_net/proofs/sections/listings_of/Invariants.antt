@@ -1,3 +1,4 @@
+-- What the loop of `listings_of` keeps from turn to turn.
 use Rattle.std.proofs.Common.{take}
 use Rattle.vss_lists.specs.Breaks.{HoldsBelow}
 use Rattle.rail_net.specs.Parts.{listings_from, track_names}

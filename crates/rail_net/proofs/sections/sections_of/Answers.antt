@@ -1,8 +1,8 @@
-use Rattle.std.proofs.Common.{◌≡◌, ◌<◌, ◌≤◌, ◌+◌, ◌∷◌, [], ◌++◌, inl, inr, ℕ, List, Option, None, length, get_or, map, slice_get, Some, subst, sym, ap, refl, ◌∙◌, arith}
+-- Why `sections_of` does what its contract says.
+use Rattle.std.proofs.Common.{◌≡◌, ◌<◌, ◌+◌, ◌∷◌, [], ◌++◌, inl, inr, ℕ, List, Option, None, length, get_or, slice_get, Some, subst, sym, ap, refl, ◌∙◌, arith}
 use Rattle.std.proofs.lemmas.Option.{slice_get-get_or, same_Some}
 use Rattle.std.proofs.lemmas.List.{length_push}
-use Rattle.vss_lists.specs.Breaks.{BreaksFirstAt, HoldsBelow}
-use Rattle.rail_net.specs.Parts.{IsOfSection, IsTrack, Lists}
+use Rattle.rail_net.specs.Parts.{IsOfSection, Lists}
 use Rattle.rail_net.specs.Entries.{AreValues, HasEntry}
 use Rattle.rail_net.specs.Refusals.{HasNewTracks}
 use Rattle.rail_net.specs.Rules.{IsListed}
@@ -10,8 +10,8 @@ use Rattle.rail_net.specs.Tables.{AreListings}
 use Rattle.rail_net.specs.declared.entries.Entry.{Entry}
 use Rattle.rail_net.specs.declared.parts.NetParts.{NetParts}
 use Rattle.rail_net.specs.declared.parts.TrackPart.{TrackPart}
-use Rattle.rail_net.proofs.ListLemmas.{map_at, push_at, holds_next, holds_all, there_is}
-use Rattle.rail_net.proofs.NameLemmas.{same_number}
+use Rattle.rail_net.proofs.ListLaws.{map_at, push_at, holds_next, holds_all, there_is}
+use Rattle.rail_net.proofs.NameLaws.{same_number}
 use Rattle.rail_net.proofs.ListingLemmas.{entry_of, of_entry}
 use Rattle.rail_net.proofs.sections.sections_of.Goals as goal
 

@@ -1,3 +1,4 @@
+-- Why `names_of` does what its contract says.
 use Rattle.std.proofs.Common.{refl}
 use Rattle.rail_net.specs.Rules.{HasNewName}
 use Rattle.rail_net.specs.Refusals.{name_rules}

@@ -1,3 +1,4 @@
+-- Why `is_clause` does what its contract says.
 use Rattle.std.proofs.Common.{arith, refl}
 use Rattle.sat_core.proofs.ClauseLemmas.{clause_at, clause_more}
 use Rattle.sat_core.proofs.clause.is_clause.Goals as goal

@@ -1,3 +1,4 @@
+-- What the loop of `is_clause` keeps from turn to turn.
 use Rattle.std.specs.Prelude.{take}
 use Rattle.sat_core.specs.Clauses.{IsClause}
 use Rattle.sat_core.proofs.clause.is_clause.Given as goal

@@ -1,3 +1,4 @@
+-- Why `are_satisfied` does what its contract says.
 use Rattle.std.proofs.Common.{◌<◌, [], length, arith, subst, below_more, refl, sym}
 use Rattle.std.specs.Prelude.{slice_index_or}
 use Rattle.sat_core.specs.Clauses.{IsClause, Satisfies}

@@ -1,3 +1,4 @@
+-- What the loop of `are_satisfied` keeps from turn to turn.
 use Rattle.std.proofs.Common.{ℕ, ◌<◌}
 use Rattle.std.specs.Prelude.{List, slice_index_or}
 use Rattle.sat_core.specs.declared.literal.Lit.{Lit}

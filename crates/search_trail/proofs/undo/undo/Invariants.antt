@@ -1,6 +1,7 @@
+-- What the loop of `undo` keeps from turn to turn.
 use Rattle.std.specs.Prelude.{◌≤◌, ◌<◌, ℕ, take, length, slice_index_or}
 use Rattle.search_trail.specs.declared.entry.Entry.{Entry}
-use Rattle.search_trail.specs.Kept.{AreMarked}
+use Rattle.sat_core.specs.Marks.{AreMarked}
 use Rattle.search_trail.specs.Trails.{known_of}
 use Rattle.search_trail.proofs.undo.undo.Given as goal
 

@@ -1,3 +1,4 @@
+-- Why `linked` does what its contract says.
 use Rattle.std.proofs.Common.{subst}
 use Rattle.sweep_table.specs.Groups.{AreGroups}
 use Rattle.sweep_table.proofs.BuildLemmas.{is_long}

@@ -1,3 +1,4 @@
+-- Why `sweeps_of` does what its contract says.
 use Rattle.std.proofs.Common.{refl}
 use Rattle.std.proofs.lemmas.Result.{IfOk-weaker, IfErr-weaker}
 use Rattle.sweep_table.proofs.BuildLemmas.{are_sweeps, too_many}

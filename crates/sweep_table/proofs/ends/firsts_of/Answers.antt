@@ -1,3 +1,4 @@
+-- Why `firsts_of` does what its contract says.
 use Rattle.std.proofs.Common.{List, [], take, refl, arith, subst}
 use Rattle.std.specs.Prelude.{Contains}
 use Rattle.cell_net.specs.declared.cells.DirCell.{DirCell}

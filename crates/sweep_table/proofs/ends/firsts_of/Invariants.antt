@@ -1,3 +1,4 @@
+-- What the loop of `firsts_of` keeps from turn to turn.
 use Rattle.sweep_table.specs.Ends.{ArePlacesBelow, first_cells}
 use Rattle.sweep_table.proofs.ends.firsts_of.Given as goal
 

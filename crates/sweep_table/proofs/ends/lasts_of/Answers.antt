@@ -1,3 +1,4 @@
+-- Why `lasts_of` does what its contract says.
 use Rattle.std.proofs.Common.{◌-◌, List, [], length, drop, sym, arith, subst}
 use Rattle.std.specs.Prelude.{Contains}
 use Rattle.std.proofs.lemmas.List.{take_rest}

@@ -1,3 +1,4 @@
+-- What the loop of `lasts_of` keeps from turn to turn.
 use Rattle.sweep_table.specs.Ends.{ArePlacesBelow, last_cells}
 use Rattle.sweep_table.proofs.ends.lasts_of.Given as goal
 

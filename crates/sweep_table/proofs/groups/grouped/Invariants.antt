@@ -1,3 +1,4 @@
+-- What the loop of `grouped` keeps from turn to turn.
 use Rattle.std.specs.Prelude.{◌≡◌, take}
 use Rattle.sweep_table.proofs.groups.grouped.Given as goal
 

@@ -1,3 +1,4 @@
+-- Why `groups_of` does what its contract says.
 use Rattle.std.proofs.Common.{◌≡◌, length, refl, subst, arith}
 use Rattle.sweep_table.specs.Groups.{AreGroupsBelow}
 use Rattle.sweep_table.proofs.GroupLemmas.{none_grouped, grouped_more}

@@ -1,3 +1,4 @@
+-- What the loop of `groups_of` keeps from turn to turn.
 use Rattle.sweep_table.specs.Groups.{AreGroupsBelow}
 use Rattle.sweep_table.proofs.groups.groups_of.Given as goal
 

@@ -1,3 +1,4 @@
+-- What the loop of `none_of` keeps from turn to turn.
 use Rattle.std.specs.Prelude.{◌≡◌, List, [], All, length}
 use Rattle.sweep_table.specs.declared.ids.SweepId.{SweepId}
 use Rattle.sweep_table.proofs.groups.none_of.Given as goal

@@ -1,3 +1,4 @@
+-- Why `+grow` does what its contract says.
 use Rattle.std.proofs.Common.{◌≡◌, ◌<◌, ◌≤◌, true, false, ◌-◌, ◌++◌, List, length, take, get_or, ◌∙◌, ap, sym, refl, subst, arith}
 use Rattle.std.proofs.lemmas.List.{append-nil, take_all, get_or_default}
 use Rattle.cell_net.specs.declared.cells.DirCell.{DirCell}

@@ -1,3 +1,4 @@
+-- What the loop of `+grow` keeps from turn to turn.
 use Rattle.std.specs.Prelude.{◌≡◌, ◌≤◌, ◌++◌, ◌-◌, take, length}
 use Rattle.std.specs.List.{flat_map}
 use Rattle.sweep_table.specs.Growing.{branch, grown}

@@ -1,3 +1,4 @@
+-- Why `directed_of` does what its contract says.
 use Rattle.std.proofs.Common.{◌≡◌, ◌++◌, ◌∷◌, [], ◌∙◌, ap, sym, arith}
 use Rattle.std.proofs.lemmas.List.Elements.{All-push, All-same}
 use Rattle.cell_net.specs.Space.{IsCell}

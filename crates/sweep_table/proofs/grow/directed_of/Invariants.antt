@@ -1,3 +1,4 @@
+-- What the loop of `directed_of` keeps from turn to turn.
 use Rattle.std.specs.Prelude.{◌≡◌, All}
 use Rattle.cell_net.specs.Space.{IsCell}
 use Rattle.sweep_table.specs.Growing.{directed}

@@ -1,3 +1,4 @@
+-- Why `gather` does what its contract says.
 use Rattle.sweep_table.proofs.GrowLemmas.{advances_more, advances_fault}
 use Rattle.sweep_table.proofs.grow.gather.Goals as goal
 

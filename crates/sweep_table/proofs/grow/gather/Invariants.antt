@@ -1,3 +1,4 @@
+-- What the loop of `gather` keeps from turn to turn.
 use Rattle.std.specs.Prelude.{◌≡◌, ◌≤◌, length}
 use Rattle.sweep_table.specs.Growing.{sweeps_below}
 use Rattle.sweep_table.proofs.grow.gather.Given as goal

@@ -1,3 +1,4 @@
+-- What the loop of `is_lower` keeps from turn to turn.
 use Rattle.std.specs.Prelude.{◌≡◌, take}
 use Rattle.sweep_table.proofs.order.is_lower.Given as goal
 

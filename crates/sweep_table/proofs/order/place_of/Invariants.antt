@@ -1,3 +1,4 @@
+-- What the loop of `place_of` keeps from turn to turn.
 use Rattle.std.specs.Prelude.{◌≤◌, ◌-◌, ℕ}
 use Rattle.std.specs.Prelude.{◌≡◌, length, slice_get, Some}
 use Rattle.sweep_table.proofs.order.place_of.Given as goal

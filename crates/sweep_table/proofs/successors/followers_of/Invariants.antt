@@ -1,3 +1,4 @@
+-- What the loop of `followers_of` keeps from turn to turn.
 use Rattle.std.specs.Prelude.{◌*◌}
 use Rattle.sweep_table.specs.Growing.{AreFollowersBelow}
 use Rattle.sweep_table.proofs.successors.followers_of.Given as goal

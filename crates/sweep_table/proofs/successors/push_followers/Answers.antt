@@ -1,3 +1,4 @@
+-- Why `push_followers` does what its contract says.
 use Rattle.std.proofs.Common.{◌∙◌, ◌++◌, ◌∷◌, [], ap}
 use Rattle.sweep_table.proofs.FollowLemmas.{after_more}
 use Rattle.sweep_table.proofs.successors.push_followers.Goals as goal

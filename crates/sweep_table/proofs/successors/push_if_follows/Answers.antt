@@ -1,3 +1,4 @@
+-- Why `push_if_follows` does what its contract says.
 use Rattle.std.proofs.Common.{refl}
 use Rattle.cell_net.specs.Space.{Follows}
 use Rattle.sweep_table.proofs.FollowLemmas.{follows_more, follows_less}

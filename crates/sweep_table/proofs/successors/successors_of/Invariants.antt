@@ -1,3 +1,4 @@
+-- What the loop of `successors_of` keeps from turn to turn.
 use Rattle.std.specs.Prelude.{◌*◌}
 use Rattle.sweep_table.specs.Growing.{AreAfterBelow}
 use Rattle.sweep_table.proofs.successors.successors_of.Given as goal

@@ -1,3 +1,4 @@
+-- What the loop of `each` keeps from turn to turn.
 use Rattle.std.proofs.Common.{map, ◌≡◌, drop, length}
 use Rattle.std.specs.List.{All}
 use Rattle.vss_json.specs.Values.{json_of}

@@ -1,3 +1,4 @@
+-- What the loop of `each_text` keeps from turn to turn.
 use Rattle.std.proofs.Common.{map, ◌≡◌, drop, length}
 use Rattle.std.specs.Prelude.{ok_or}
 use Rattle.vss_json.specs.Values.{json_of, text_of}

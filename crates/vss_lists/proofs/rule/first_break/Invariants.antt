@@ -1,3 +1,4 @@
+-- What the loop of `first_break` keeps from turn to turn.
 use Rattle.vss_lists.specs.Breaks.{HoldsBelow}
 use Rattle.vss_lists.proofs.rule.first_break.Given as goal
 

@@ -1,3 +1,4 @@
+-- Why `cell` does what its contract says.
 use Rattle.vss_report.proofs.CellLemmas.{no_track, short_number, no_number}
 use Rattle.vss_report.proofs.cells.cell.Goals as goal
 

@@ -1,7 +1,7 @@
-use Rattle.std.proofs.Common.{◌≡◌, ◌≢◌, ◌⊎◌, inl, inr, true, false, drop, refl, arith}
-use Rattle.std.specs.Prelude.{slice_index, length}
+-- Why `test_cells` does what its contract says.
+use Rattle.std.proofs.Common.{◌≡◌, inl, inr, true, false, drop, refl, arith}
 use Rattle.std.proofs.lemmas.List.{take_rest}
-use Rattle.vss_report.proofs.CellLemmas.{IsCellsFront-more, cells_end, no_cell, no_end, cells_found}
+use Rattle.vss_report.proofs.CellLemmas.{IsCellsFront-more, cells_end, no_cell, no_end}
 use Rattle.vss_report.proofs.CountLemmas.{begins, none_left, some_left}
 use Rattle.vss_report.proofs.cells.test_cells.Goals as goal
 use Rattle.vss_report.proofs.cells.test_cells.Goals.{then-rest-ne10-via-then-rest-ne10, then-rest-ne10-via-else-rest-ne10+then-rest-text}

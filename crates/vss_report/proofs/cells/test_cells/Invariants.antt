@@ -1,3 +1,4 @@
+-- What the loop of `test_cells` keeps from turn to turn.
 use Rattle.std.specs.Prelude.{length}
 use Rattle.vss_report.proofs.CellLemmas.{IsCellsFront}
 use Rattle.vss_report.proofs.cells.test_cells.Given as goal

@@ -1,3 +1,4 @@
+-- Why `border` does what its contract says.
 use Rattle.vss_report.proofs.KindLemmas.{border_short, border_missed}
 use Rattle.vss_report.proofs.line_reader.border.Goals as goal
 

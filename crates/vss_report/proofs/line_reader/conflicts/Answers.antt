@@ -1,3 +1,4 @@
+-- Why `conflicts` does what its contract says.
 use Rattle.vss_report.proofs.KindLemmas.{conflicts_short, conflicts_missed, conflicts_found}
 use Rattle.vss_report.proofs.line_reader.conflicts.Goals as goal
 

@@ -1,3 +1,4 @@
+-- Why `count` does what its contract says.
 use Rattle.vss_report.proofs.KindLemmas.{count_missed}
 use Rattle.vss_report.proofs.line_reader.count.Goals as goal
 

@@ -1,3 +1,4 @@
+-- Why `read_line` does what its contract says.
 use Rattle.std.proofs.Common.{arith}
 use Rattle.vss_report.proofs.FoundLemmas.{AreTried-all}
 use Rattle.vss_report.proofs.line_reader.read_line.Goals as goal

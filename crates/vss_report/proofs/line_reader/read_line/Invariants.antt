@@ -1,3 +1,4 @@
+-- What the loop of `read_line` keeps from turn to turn.
 use Rattle.vss_report.proofs.FoundLemmas.{AreTried}
 use Rattle.vss_report.proofs.line_reader.read_line.Given as goal
 

@@ -1,3 +1,4 @@
+-- Why `refutes` does what its contract says.
 use Rattle.vss_report.proofs.KindLemmas.{refutes_short, refutes_missed}
 use Rattle.vss_report.proofs.line_reader.refutes.Goals as goal
 

@@ -1,3 +1,4 @@
+-- Why `run` does what its contract says.
 use Rattle.vss_report.proofs.KindLemmas.{run_missed}
 use Rattle.vss_report.proofs.line_reader.run.Goals as goal
 

@@ -1,3 +1,4 @@
+-- Why `step` does what its contract says.
 use Rattle.vss_report.proofs.KindLemmas.{no_step, no_step_end, step_found}
 use Rattle.vss_report.proofs.line_reader.step.Goals as goal
 

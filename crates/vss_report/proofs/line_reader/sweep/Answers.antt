@@ -1,4 +1,5 @@
-use Rattle.std.proofs.Common.{codes, ◌∷◌, [], ap, ◌∙◌}
+-- Why `sweep` does what its contract says.
+use Rattle.std.proofs.Common.{codes}
 use Rattle.vss_report.specs.Readings.{AreCells, cells_line}
 use Rattle.vss_report.proofs.PartLemmas.{word_missed, rest_missed}
 use Rattle.vss_report.proofs.CellLemmas.{one_cell, one_fits}

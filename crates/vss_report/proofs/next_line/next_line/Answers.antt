@@ -1,4 +1,4 @@
-use Rattle.std.proofs.Common.{◌≡◌, inl, inr, length, refl, arith}
+-- Why `next_line` does what its contract says.
 use Rattle.vss_report.proofs.NextLemmas.{wrong_at, short_at_end, short_in_line}
 use Rattle.vss_report.proofs.next_line.next_line.Goals as goal
 

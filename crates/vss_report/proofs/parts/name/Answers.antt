@@ -1,6 +1,6 @@
-use Rattle.std.proofs.Common.{◌≡◌, ◌⊎◌, inl, inr, true, false, arith, sym, ◌∙◌, refl}
-use Rattle.vss_names.specs.Names.{is_name_byte}
-use Rattle.vss_report.proofs.PartLemmas.{IsNameFront-name, IsNameFront-found, IsNameFront-stops, IsNameFront-more, IsNameFront-ends}
+-- Why `name` does what its contract says.
+use Rattle.std.proofs.Common.{inl, inr, arith, sym, ◌∙◌}
+use Rattle.vss_report.proofs.PartLemmas.{IsNameFront-name, IsNameFront-stops, IsNameFront-more, IsNameFront-ends}
 use Rattle.vss_report.proofs.parts.name.Goals as goal
 use Rattle.vss_report.proofs.parts.name.Goals.{then-count-eq32-via-then-count-eq32, then-count-eq32-via-else-count-eq32+then-not-is_name_byte}
 

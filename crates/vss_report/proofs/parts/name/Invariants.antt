@@ -1,3 +1,4 @@
+-- What the loop of `name` keeps from turn to turn.
 use Rattle.vss_report.proofs.PartLemmas.{IsNameFront}
 use Rattle.vss_report.proofs.parts.name.Given as goal
 

@@ -1,5 +1,5 @@
-use Rattle.std.proofs.Common.{◌∷◌, ◌++◌, [], sym, refl, arith, append_assoc, ◌∙◌}
-use Rattle.std.specs.Prelude.{decimal}
+-- Why `named_number` does what its contract says.
+use Rattle.std.proofs.Common.{◌∷◌, [], sym, refl, arith, append_assoc, ◌∙◌}
 use Rattle.vss_names.specs.Names.{IsName}
 use Rattle.vss_text.specs.Numbers.{IsShort, ended}
 use Rattle.vss_text.specs.Reading.{Both, both_spelled}

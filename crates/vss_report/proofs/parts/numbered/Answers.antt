@@ -1,3 +1,4 @@
+-- Why `numbered` does what its contract says.
 use Rattle.std.proofs.Common.{arith}
 use Rattle.vss_text.specs.Numbers.{IsShort, ended}
 use Rattle.vss_report.proofs.PartLemmas.{word_missed, rest_missed}

@@ -1,3 +1,4 @@
+-- Why `worded` does what its contract says.
 use Rattle.std.proofs.Common.{◌∷◌, []}
 use Rattle.vss_names.specs.Names.{IsName}
 use Rattle.vss_report.specs.Readings.{named}

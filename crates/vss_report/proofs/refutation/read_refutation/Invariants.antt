@@ -1,3 +1,4 @@
+-- What the loop of `read_refutation` keeps from turn to turn.
 use Rattle.std.specs.Prelude.{length}
 use Rattle.vss_report.specs.Gathered.{AreGathered}
 use Rattle.vss_report.proofs.RefutationLemmas.{IsReadTo}

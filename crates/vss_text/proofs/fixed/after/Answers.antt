@@ -1,3 +1,4 @@
+-- Why `after` does what its contract says.
 use Rattle.std.proofs.Common.{None, Some}
 use Rattle.std.proofs.lemmas.Bool.Decides.{Decides-eqb}
 use Rattle.std.proofs.lemmas.Slice.Eq.{strip_prefix_is}

@@ -1,3 +1,4 @@
+-- Why `number` does what its contract says.
 use Rattle.std.proofs.Common.{◌≡◌, ◌+◌, ◌∷◌, ◌++◌, true, false, arith, ap, sym, ◌∙◌, refl}
 use Rattle.std.specs.Prelude.{decimal}
 use Rattle.std.proofs.lemmas.List.{take_rest}

@@ -1,3 +1,4 @@
+-- What the loop of `number` keeps from turn to turn.
 use Rattle.vss_text.proofs.NumberLemmas.{AreRead}
 use Rattle.vss_text.proofs.numbers.number.Given as goal
 

@@ -1,3 +1,4 @@
+-- Why `CounterOut::at_least` does what its contract says.
 use Rattle.std.proofs.Common.{ap, arith}
 use Rattle.border_counter.proofs.SumLemmas.{sum_to-pred}
 use Rattle.border_counter.proofs.counter.CounterOut.at_least.Goals as goal

@@ -1,3 +1,4 @@
+-- Why `Instance::build` does what its contract says.
 use Rattle.cell_net.proofs.RuleLemmas.{have_places}
 use Rattle.cell_net.proofs.instance.Instance.build.Goals as goal
 

@@ -1,3 +1,4 @@
+-- Why `Instance::follows` does what its contract says.
 use Rattle.std.proofs.Common.{◌≤◌, length, arith, subst}
 use Rattle.cell_net.specs.Space.{Follows, head_of, tail_of}
 use Rattle.cell_net.specs.declared.parts.InstanceParts.{InstanceParts}

@@ -1,3 +1,4 @@
+-- Why `Layout::new` does what its contract says.
 use Rattle.std.proofs.Common.{rules}
 use Rattle.vss_lists.specs.Orders.{IsFirstBroken}
 use Rattle.cell_net.proofs.layout.Layout.new.Goals as goal

@@ -1,3 +1,4 @@
+-- What the loop of `end_of_another` keeps from turn to turn.
 use Rattle.std.proofs.Common.{◌≡◌, ℕ, ◌<◌, slice_index_or}
 use Rattle.node_groups.specs.declared.ends.End.{End}
 use Rattle.cell_net.proofs.rules.candidates.end_of_another.Given as goal

@@ -1,3 +1,4 @@
+-- Why `first_bad_candidate` does what its contract says.
 use Rattle.cell_net.proofs.rules.candidates.first_bad_candidate.Goals as goal
 
 pub returns : goal.returns

@@ -1,3 +1,4 @@
+-- Why `joins_two_cells` does what its contract says.
 use Rattle.std.proofs.Common.{◌≡◌, false, true}
 use Rattle.std.proofs.lemmas.Bool.{eq-eqb, eqb-true}
 use Rattle.cell_net.proofs.CandidateLemmas.{joined, joined_part, of_joined}

@@ -1,3 +1,4 @@
+-- Why `are_at_one_node` does what its contract says.
 use Rattle.std.proofs.Common.{◌≡◌, subst}
 use Rattle.cell_net.specs.Rules.{IsNodeOf}
 use Rattle.cell_net.proofs.RuleLemmas.{one_node}

@@ -1,3 +1,4 @@
+-- Why `first_bad_join` does what its contract says.
 use Rattle.cell_net.proofs.rules.joins.first_bad_join.Goals as goal
 
 pub returns : goal.returns

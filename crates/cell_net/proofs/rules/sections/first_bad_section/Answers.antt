@@ -1,3 +1,4 @@
+-- Why `first_bad_section` does what its contract says.
 use Rattle.cell_net.proofs.SectionLemmas.{first_bad}
 use Rattle.cell_net.proofs.rules.sections.first_bad_section.Goals as goal
 

@@ -1,3 +1,4 @@
+-- Why `ClauseWriter::finish` does what its contract says.
 use Rattle.std.proofs.Common.{◌≡◌, ◌*◌, ◌^◌, ◌<◌, ◌≤◌, length, arith, ap, ◌∙◌, subst, ◌++◌, ◌∷◌, []}
 use Rattle.clause_encoder.proofs.WriterLemmas.{short_enough, writer_more}
 use Rattle.clause_encoder.proofs.writer.ClauseWriter.finish.Goals as goal

@@ -1,3 +1,4 @@
+-- Why `ClauseWriter::take` does what its contract says.
 use Rattle.std.proofs.Common.{◌*◌, ◌^◌, ◌<◌, ◌≤◌, length, arith, refl, ap}
 use Rattle.clause_encoder.proofs.WriterLemmas.{short_enough, writer_more}
 use Rattle.clause_encoder.proofs.writer.ClauseWriter.take.Goals as goal

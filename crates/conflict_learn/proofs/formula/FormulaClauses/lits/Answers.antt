@@ -1,3 +1,4 @@
+-- Why `FormulaClauses::lits` does what its contract says.
 use Rattle.std.proofs.Common.{inl, inr, arith}
 use Rattle.conflict_learn.proofs.FormulaLemmas.{clause_of-outside, clause_of-inside}
 use Rattle.conflict_learn.proofs.formula.FormulaClauses.lits.Goals as goal

@@ -1,3 +1,4 @@
+-- Why `Marks::mark` does what its contract says.
 use Rattle.std.proofs.Common.{◌≡◌, ◌≤◌, ◌-◌, Bool, false, List, length, get_or, arith, sym, subst}
 use Rattle.conflict_learn.proofs.MarkLemmas.{touched_room, IsTouched-mark}
 use Rattle.conflict_learn.proofs.marks.Marks.mark.Goals as goal

@@ -1,3 +1,4 @@
+-- Why `StepText::read` does what its contract says.
 use Rattle.std.proofs.Common.{◌≡◌, sym, subst, refl}
 use Rattle.derivation_log.specs.Tested.{IsTextOf}
 use Rattle.derivation_log.specs.Text.{IsLogNumber}

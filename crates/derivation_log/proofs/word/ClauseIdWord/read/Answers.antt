@@ -1,3 +1,4 @@
+-- Why `ClauseIdWord::read` does what its contract says.
 use Rattle.derivation_log.proofs.NumberLemmas.{id_misses}
 use Rattle.derivation_log.proofs.word.ClauseIdWord.read.Goals as goal
 

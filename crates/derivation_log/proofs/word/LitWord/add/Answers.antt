@@ -1,3 +1,4 @@
+-- Why `LitWord::add` does what its contract says.
 use Rattle.std.proofs.Common.{◌≡◌, ◌∷◌, ◌++◌, [], ℕ, List, cond, ap, sym}
 use Rattle.std.specs.Prelude.{decimal}
 use Rattle.derivation_log.specs.Text.{literal_text}

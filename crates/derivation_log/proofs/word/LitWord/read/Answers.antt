@@ -1,3 +1,4 @@
+-- Why `LitWord::read` does what its contract says.
 use Rattle.std.proofs.Common.{◌≡◌, ◌∷◌, true, false, drop, refl, arith}
 use Rattle.std.specs.Prelude.{slice_index}
 use Rattle.std.proofs.lemmas.List.{take_rest}

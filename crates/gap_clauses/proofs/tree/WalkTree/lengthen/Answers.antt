@@ -1,4 +1,5 @@
-use Rattle.std.proofs.Common.{◌≡◌, ◌<◌, ◌+◌, ◌∙◌, ◌++◌, ◌∷◌, [], length, ap, arith}
+-- Why `WalkTree::lengthen` does what its contract says.
+use Rattle.std.proofs.Common.{◌∙◌, ◌++◌, ◌∷◌, [], length, ap, arith}
 use Rattle.gap_clauses.specs.Trees.{walks_in, lengthened}
 use Rattle.gap_clauses.proofs.TreeLemmas.{branches_push, walks_length, walks_push}
 use Rattle.gap_clauses.proofs.tree.WalkTree.lengthen.Goals as goal

@@ -1,3 +1,4 @@
+-- Why `WalkTree::new` does what its contract says.
 use Rattle.std.proofs.Common.{◌∙◌, ap}
 use Rattle.gap_clauses.specs.Trees.{walks_in}
 use Rattle.gap_clauses.proofs.TreeLemmas.{first_walk}

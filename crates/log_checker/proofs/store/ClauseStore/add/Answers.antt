@@ -1,3 +1,4 @@
+-- Why `ClauseStore::add` does what its contract says.
 use Rattle.std.proofs.Common.{◌≡◌, ◌++◌, ◌∷◌, [], List, false, refl, arith, ap, sym, ◌∙◌, length-append, append_assoc}
 use Rattle.sat_core.specs.declared.literal.Lit.{Lit}
 use Rattle.log_checker.specs.declared.dropped.Dropped.{Dropped}

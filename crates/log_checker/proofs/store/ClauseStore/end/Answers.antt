@@ -1,3 +1,4 @@
+-- Why `ClauseStore::end` does what its contract says.
 use Rattle.std.proofs.Common.{◌++◌, subst, ap, sym, ◌∙◌}
 use Rattle.sat_core.specs.Derivation.{ClauseDatabase, IsAcceptedDrop, after, drops}
 use Rattle.log_checker.specs.Drops.{CanDrop}

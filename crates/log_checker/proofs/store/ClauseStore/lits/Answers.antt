@@ -1,3 +1,4 @@
+-- Why `ClauseStore::lits` does what its contract says.
 use Rattle.std.proofs.Common.{◌++◌, ◌≡◌, List, ap, sym, subst, ◌∙◌}
 use Rattle.std.specs.Prelude.{None, slice_get}
 use Rattle.sat_core.specs.Hints.{NumberedClause, clause_of}

@@ -1,3 +1,4 @@
+-- Why `ClauseStore::new` does what its contract says.
 use Rattle.std.proofs.Common.{◌≡◌, ◌++◌, ap, ◌∙◌}
 use Rattle.std.proofs.lemmas.List.{append-nil}
 use Rattle.log_checker.proofs.StoreLemmas.{database_of-first}

@@ -1,3 +1,4 @@
+-- Why `PlainSolverSolver::add_unit` does what its contract says.
 use Rattle.std.proofs.Common.{◌≡◌, ◌+◌, [], ◌∷◌, ◌++◌, ap, arith, ◌∙◌}
 use Rattle.sat_core.specs.Search.{gives, log_of, units_of}
 use Rattle.sat_core.proofs.SearchLaws.{units_given, log_given}

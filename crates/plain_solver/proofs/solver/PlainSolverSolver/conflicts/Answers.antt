@@ -1,3 +1,4 @@
+-- Why `PlainSolverSolver::conflicts` does what its contract says.
 use Rattle.std.proofs.Common.{ap, sym, arith, ◌∙◌}
 use Rattle.sat_core.specs.Search.{log_of, adds_in}
 use Rattle.solver_face.specs.Solving.{Solving}

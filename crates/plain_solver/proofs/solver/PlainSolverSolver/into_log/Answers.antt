@@ -1,3 +1,4 @@
+-- Why `PlainSolverSolver::into_log` does what its contract says.
 use Rattle.std.proofs.Common.{ap, sym, ◌∙◌}
 use Rattle.derivation_log.specs.Steps.{derived_steps}
 use Rattle.sat_core.specs.Search.{log_of}

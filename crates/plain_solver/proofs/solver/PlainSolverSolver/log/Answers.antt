@@ -1,3 +1,4 @@
+-- Why `PlainSolverSolver::log` does what its contract says.
 use Rattle.std.proofs.Common.{ap, sym, ◌∙◌}
 use Rattle.sat_core.specs.Search.{log_of}
 use Rattle.solver_face.specs.Solving.{Solving}

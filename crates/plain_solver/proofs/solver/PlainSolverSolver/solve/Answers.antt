@@ -1,3 +1,4 @@
+-- Why `PlainSolverSolver::solve` does what its contract says.
 use Rattle.std.proofs.Common.{◌+◌, false, ap, sym, arith, subst, ◌∙◌}
 use Rattle.sat_core.specs.Search.{units_of}
 use Rattle.solver_face.specs.Solving.{Solving, taken, IsRefuted}

@@ -1,6 +1,7 @@
+-- Why `NameIndex::number_of` does what its contract says.
 use Rattle.std.proofs.Common.{◌≡◌, map, string_bytes, subst, sym}
 use Rattle.std.specs.List.{Contains}
-use Rattle.rail_net.proofs.NameLemmas.{found_at, none_named}
+use Rattle.rail_net.proofs.NameLaws.{found_at, none_named}
 use Rattle.rail_net.proofs.names.NameIndex.number_of.Goals as goal
 
 pub returns-in-Some : goal.returns-in-Some

@@ -1,4 +1,5 @@
-use Rattle.std.proofs.Common.{◌≡◌, List, subst, sym}
+-- Why `Net::section_of` does what its contract says.
+use Rattle.std.proofs.Common.{subst, sym}
 use Rattle.std.proofs.lemmas.Option.{get_or_from_slice_get}
 use Rattle.rail_net.specs.Parts.{IsOfSection}
 use Rattle.rail_net.specs.Tables.{AreHomes}

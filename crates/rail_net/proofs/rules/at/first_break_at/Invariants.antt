@@ -1,3 +1,4 @@
+-- What the loop of `first_break_at` keeps from turn to turn.
 use Rattle.vss_lists.specs.Breaks.{HoldsBelow}
 use Rattle.rail_net.proofs.rules.at.first_break_at.Given as goal
 

@@ -1,9 +1,9 @@
-use Rattle.std.proofs.Common.{◌≡◌, ◌+◌, sym, ap, subst, ◌∙◌, arith}
-use Rattle.std.specs.Prelude.{slice_index}
+-- Why `has_degree` does what its contract says.
+use Rattle.std.proofs.Common.{◌+◌, arith}
 use Rattle.rail_net.specs.Parts.{IsNode}
 use Rattle.rail_net.specs.Rules.{begin_count, end_count, degree}
 use Rattle.rail_net.specs.declared.parts.NodePart.{NodePart}
-use Rattle.rail_net.proofs.ListLemmas.{map_at}
+use Rattle.rail_net.proofs.ListLaws.{map_at}
 use Rattle.rail_net.proofs.RuleLemmas.{sum_is}
 use Rattle.rail_net.proofs.rules.nodes.has_degree.Goals as goal
 

@@ -1,4 +1,5 @@
-use Rattle.std.proofs.Common.{◌≡◌, ◌<◌, List, length, Some, slice_get, subst, sym, refl, ap, ◌∙◌}
+-- Why `is_here` does what its contract says.
+use Rattle.std.proofs.Common.{◌≡◌, ◌<◌, List, length, Some, slice_get, subst, sym, refl}
 use Rattle.std.specs.List.{Contains}
 use Rattle.std.proofs.lemmas.Bool.{false≢true}
 use Rattle.std.proofs.lemmas.Option.{slice_get_read}

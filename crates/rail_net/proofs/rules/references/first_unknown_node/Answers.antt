@@ -1,3 +1,4 @@
+-- Why `first_unknown_node` does what its contract says.
 use Rattle.std.proofs.Common.{List, subst}
 use Rattle.std.specs.Prelude.{MatchOption}
 use Rattle.vss_lists.specs.Breaks.{HoldsOfEach, BreaksFirstAt}

@@ -1,9 +1,10 @@
-use Rattle.std.proofs.Common.{◌≡◌, ◌≤◌, ◌↔◌, ℕ, IsTrue, subst, sym}
+-- Why `is_listed_once` does what its contract says.
+use Rattle.std.proofs.Common.{◌≤◌, subst, sym}
 use Rattle.std.specs.Prelude.{slice_index}
 use Rattle.std.proofs.lemmas.Bool.{leb-true, le-leb}
 use Rattle.rail_net.specs.Parts.{IsTrack}
 use Rattle.rail_net.specs.declared.parts.TrackPart.{TrackPart}
-use Rattle.rail_net.proofs.ListLemmas.{map_at}
+use Rattle.rail_net.proofs.ListLaws.{map_at}
 use Rattle.rail_net.proofs.rules.tracks.is_listed_once.Goals as goal
 
 pub returns : goal.returns

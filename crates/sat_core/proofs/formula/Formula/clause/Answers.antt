@@ -1,3 +1,4 @@
+-- Why `Formula::clause` does what its contract says.
 use Rattle.std.proofs.Common.{◌≡◌, ◌-◌, ◌<◌, [], length, get_or, ap, arith, subst}
 use Rattle.sat_core.specs.Clauses.{IsClause}
 use Rattle.sat_core.specs.Storage.{pieces}

@@ -1,3 +1,4 @@
+-- Why `Formula::push` does what its contract says.
 use Rattle.std.proofs.Common.{◌≡◌, ◌++◌, ◌∷◌, [], length, ap, arith, subst, sym, rules}
 use Rattle.sat_core.specs.Clauses.{IsClause}
 use Rattle.sat_core.proofs.StorageLemmas.{length-pieces, IsStored-push}

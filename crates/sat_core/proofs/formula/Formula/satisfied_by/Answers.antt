@@ -1,3 +1,4 @@
+-- Why `Formula::satisfied_by` does what its contract says.
 use Rattle.std.proofs.Common.{◌≡◌, length, ap, sym, ◌∙◌}
 use Rattle.sat_core.proofs.formula.Formula.satisfied_by.Goals as goal
 

@@ -1,3 +1,4 @@
+-- Why `Formula::vars` does what its contract says.
 use Rattle.std.proofs.Common.{subst}
 use Rattle.std.specs.Prelude.{All}
 use Rattle.sat_core.specs.Storage.{FormulaParts}

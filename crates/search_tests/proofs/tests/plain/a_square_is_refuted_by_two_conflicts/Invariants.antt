@@ -1,3 +1,4 @@
+-- What the loop of `a_square_is_refuted_by_two_conflicts` keeps from turn to turn.
 use Rattle.search_tests.proofs.tests.plain.a_square_is_refuted_by_two_conflicts.Given as goal
 
 abbrev pub ghosts-first_clause : goal.ghosts-first_clause

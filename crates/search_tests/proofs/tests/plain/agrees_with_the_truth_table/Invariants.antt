@@ -1,3 +1,4 @@
+-- What the loop of `agrees_with_the_truth_table` keeps from turn to turn.
 use Rattle.search_tests.proofs.tests.plain.agrees_with_the_truth_table.Given as goal
 
 abbrev pub ghosts-decides : goal.ghosts-decides

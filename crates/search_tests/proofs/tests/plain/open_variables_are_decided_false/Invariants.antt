@@ -1,3 +1,4 @@
+-- What the loop of `open_variables_are_decided_false` keeps from turn to turn.
 use Rattle.search_tests.proofs.tests.plain.open_variables_are_decided_false.Given as goal
 
 abbrev pub ghosts-values : goal.ghosts-values

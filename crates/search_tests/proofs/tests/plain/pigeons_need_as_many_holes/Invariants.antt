@@ -1,3 +1,4 @@
+-- What the loop of `pigeons_need_as_many_holes` keeps from turn to turn.
 use Rattle.search_tests.proofs.tests.plain.pigeons_need_as_many_holes.Given as goal
 
 abbrev pub ghosts-decides : goal.ghosts-decides

@@ -1,3 +1,4 @@
+-- What the loop of `units` keeps from turn to turn.
 use Rattle.std.specs.Prelude.{◌≡◌, ◌+◌, ◌*◌, ◌≤◌}
 use Rattle.solver_face.specs.Solving.{taken}
 use Rattle.search_tests.proofs.tests.scenes.units.Given as goal

@@ -1,3 +1,4 @@
+-- Why `Trail::back_to` does what its contract says.
 use Rattle.std.proofs.Common.{◌≤◌, arith, subst, sym}
 use Rattle.search_trail.specs.Trails.{TrailParts}
 use Rattle.search_trail.proofs.KeptLemmas.{IsKept-cut_slice}

@@ -1,3 +1,4 @@
+-- Why `Trail::entry_of` does what its contract says.
 use Rattle.std.proofs.Common.{◌≡◌, ◌≤◌, subst, sym}
 use Rattle.std.specs.Prelude.{Any}
 use Rattle.search_trail.specs.Trails.{TrailParts}

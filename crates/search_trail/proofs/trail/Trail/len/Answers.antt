@@ -1,3 +1,4 @@
+-- Why `Trail::len` does what its contract says.
 use Rattle.std.proofs.Common.{arith}
 use Rattle.search_trail.proofs.trail.Trail.len.Goals as goal
 

@@ -1,3 +1,4 @@
+-- Why `Trail::level` does what its contract says.
 use Rattle.std.proofs.Common.{◌∙◌, ap, sym}
 use Rattle.search_trail.proofs.TrailLaws.{one_entry}
 use Rattle.search_trail.proofs.trail.Trail.level.Goals as goal

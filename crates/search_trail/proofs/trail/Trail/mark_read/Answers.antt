@@ -1,3 +1,4 @@
+-- Why `Trail::mark_read` does what its contract says.
 use Rattle.std.proofs.Common.{◌<◌, length, arith, subst, sym}
 use Rattle.search_trail.specs.Trails.{TrailParts}
 use Rattle.search_trail.proofs.trail.Trail.mark_read.Goals as goal

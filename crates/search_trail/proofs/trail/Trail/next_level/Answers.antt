@@ -1,3 +1,4 @@
+-- Why `Trail::next_level` does what its contract says.
 use Rattle.std.proofs.Common.{arith, subst, sym}
 use Rattle.sat_core.specs.Clauses.{IsOver}
 use Rattle.sat_core.specs.Fresh.{IsOpen}

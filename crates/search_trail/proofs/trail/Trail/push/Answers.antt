@@ -1,3 +1,4 @@
+-- Why `Trail::push` does what its contract says.
 use Rattle.std.proofs.Common.{◌≡◌, ◌≤◌, ◌+◌, ◌<◌, arith, subst, sym}
 use Rattle.std.specs.Prelude.{None}
 use Rattle.sat_core.specs.Clauses.{IsOver}
@@ -23,5 +24,5 @@ invariant_of-self c =
     let low : c.self.inside.present ≤ c.args.entry.level = subst (λ (t : TrailParts). t.present ≤ c.args.entry.level) (sym c.self.view_is) c.requires.low in
     let high : c.args.entry.level ≤ c.self.inside.present + 1 = subst (λ (t : TrailParts). c.args.entry.level ≤ t.present + 1) (sym c.self.view_is) c.requires.high in
     let decided : c.args.entry.reason ≡ None → c.self.inside.present < c.args.entry.level = subst (λ (t : TrailParts). c.args.entry.reason ≡ None → t.present < c.args.entry.level) (sym c.self.view_is) c.requires.decided in
-    rw (c.push_reserved.ensures.items, c.push_reserved.ensures.capacity, c.mark_of.ensures, c.len.ensures)
+    rw (c.push_reserved.ensures.items, c.push_reserved.ensures.capacity, c.place.ensures, c.len.ensures)
     (IsKept-push (record { vars = c.self.inside.vars; entries = c.self.inside.entries.items; read = c.self.inside.read; present = c.self.inside.present }) c.self.inside.marks.items c.self.inside.places.items _ c.args.entry c.self.invariant over is_open low high decided _ (omega arith))

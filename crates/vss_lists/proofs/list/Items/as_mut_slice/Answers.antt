@@ -1,3 +1,4 @@
+-- Why `Items::as_mut_slice` does what its contract says.
 use Rattle.std.proofs.Common.{◌≡◌, ◌++◌, length, take, drop, List, ap, sym, refl, ◌∙◌}
 use Rattle.vss_lists.specs.Lending.{in_place_of}
 use Rattle.vss_lists.proofs.list.Items.as_mut_slice.Goals as goal

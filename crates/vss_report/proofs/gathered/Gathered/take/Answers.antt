@@ -1,3 +1,4 @@
+-- Why `Gathered::take` does what its contract says.
 use Rattle.std.proofs.Common.{◌<◌, ◌++◌, ◌∷◌, [], List, length, refl}
 use Rattle.vss_report.specs.Lines.{ReportLine}
 use Rattle.vss_report.specs.Readings.{Says}

@@ -1,3 +1,4 @@
+-- Why `Rows::push` does what its contract says.
 use Rattle.std.proofs.Common.{◌≡◌, ◌++◌, ◌∷◌, ◌+◌, [], length, ◌∙◌, ap, refl, arith, length-append}
 use Rattle.std.specs.Prelude.{List, ℕ}
 use Rattle.vss_rows.proofs.PieceLemmas.{rises_more, pieces_more}

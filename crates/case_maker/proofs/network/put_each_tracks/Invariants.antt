@@ -1,0 +1,8 @@
+-- What the loop of `put_each_tracks` keeps: the texts of the stations so far.
+use Rattle.std.specs.Prelude.{◌≡◌, ◌-◌, ◌++◌}
+use Rattle.std.specs.List.{flat_map, range_with_len}
+use Rattle.case_maker.specs.Networks.{tracks_of}
+use Rattle.case_maker.proofs.network.put_each_tracks.Given as goal
+
+abbrev pub invariant-loop-i : goal.invariant-loop-i
+invariant-loop-i l = l.out.items ≡ l.fn.out.items ++ flat_map (tracks_of l.seed l.size) (range_with_len 1 (l.i - 1))

@@ -1,0 +1,8 @@
+-- Why `write_stop_in_run` does what its contract says.
+use Rattle.std.proofs.Common.{refl}
+use Rattle.clause_list.specs.StopClauses.{stop_in_run_clauses}
+use Rattle.clause_encoder.proofs.stop_in_run.write_stop_in_run.Goals as goal
+
+pub write_range-requires-clause-clauses : goal.write_range-requires-clause-clauses
+unfolding stop_in_run_clauses
+write_range-requires-clause-clauses c = rw c.stop_count.ensures c.requires.clauses

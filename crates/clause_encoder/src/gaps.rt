@@ -1,0 +1,181 @@
+//! The clauses of gaps: a border on each walk between two cells of a section.
+ghost use Rattle.std.specs.Prelude.{◌≡◌, ◌<◌, ◌∷◌, [], All, length, map, slice_index_or, OnOk, IfErr};
+ghost use Rattle.std.specs.List.{flat_map};
+ghost use Rattle.cell_net.specs.declared.ids.CandidateId.{CandidateId};
+ghost use Rattle.clause_list.specs.Numbers.{is_not as is_not_lit};
+ghost use Rattle.clause_list.specs.BorderClauses.{gap_clauses as gap_clauses_of};
+ghost use Rattle.clause_list.specs.Coding.{walks_in};
+ghost use Rattle.clause_list.specs.Orders.{AreWalksOver};
+ghost use Rattle.clause_encoder.specs.Writing.{AreClauses, Takes, Adds, IsCause};
+ghost use Rattle.clause_encoder.specs.WalkFitting.{AreFew, border_lit, on_walk, on_walk_alone};
+
+use crate::literals::{is, is_not};
+use crate::network::NetworkNumbers;
+use crate::part::{Part, write_each, write_range};
+use crate::writer::{ClauseWriter, WriteFault};
+use cell_net::{CandidateId, CellId};
+use gap_clauses::Gaps;
+use std::alloc::Global;
+
+/// Writes the clauses by which a gap has a border on each walk between its cells.
+#[tactic(auto, unfolding(clause_list::specs::BorderClauses::gap_clauses))]
+pub(crate) fn write_gaps(
+    alloc: Global,
+    net: &NetworkNumbers,
+    gaps: &Gaps,
+    writer: &mut ClauseWriter,
+) -> Result<(), WriteFault>
+    requires over { AreWalksOver net.now (walks_in gaps.now) }
+    requires clauses { AreClauses writer.old.vars (gap_clauses_of (walks_in gaps.now) net.now) }
+    ensures ok { OnOk result (Takes writer.old (gap_clauses_of (walks_in gaps.now) net.now) writer.new) }
+    ensures err { IfErr result (IsCause writer.old (gap_clauses_of (walks_in gaps.now) net.now)) }
+{
+    let from = BordersFrom { alloc, net, gaps };
+    write_range(&from, 0, net.cell_count(), writer)
+}
+
+// by the lower cell
+#[derive(Drop)]
+struct BordersFrom<'a> {
+    alloc: Global,
+    net: &'a NetworkNumbers,
+    gaps: &'a Gaps,
+}
+
+impl<'a> Part for BordersFrom<'a> {
+    ghost use Rattle.std.specs.Prelude.{◌<◌, length};
+    ghost use Rattle.clause_list.specs.BorderClauses.{borders_from};
+    ghost use Rattle.clause_list.specs.Coding.{walks_in};
+    ghost use Rattle.clause_list.specs.Orders.{AreWalksOver};
+
+    ghost clauses = { λ p e. borders_from (walks_in p.gaps.now) p.net.now e };
+
+    ghost fits = { λ p place e. AreWalksOver p.net.now (walks_in p.gaps.now) × (e < length p.net.now.sections) };
+
+    #[tactic(auto, unfolding(clause_list::specs::BorderClauses::borders_from))]
+    fn write(&self, _place: usize, cell: u32, writer: &mut ClauseWriter) -> Result<(), WriteFault> {
+        let between = BordersBetween {
+            alloc: self.alloc,
+            net: self.net,
+            gaps: self.gaps,
+            cell,
+        };
+        write_each(&between, self.net.above(cell), writer)
+    }
+}
+
+// by the other
+#[derive(Drop)]
+struct BordersBetween<'a> {
+    alloc: Global,
+    net: &'a NetworkNumbers,
+    gaps: &'a Gaps,
+    cell: u32,
+}
+
+impl<'a> Part for BordersBetween<'a> {
+    ghost use Rattle.std.specs.Prelude.{◌≡◌, ◌<◌, length, slice_index};
+    ghost use Rattle.clause_list.specs.BorderClauses.{borders_between};
+    ghost use Rattle.clause_list.specs.Coding.{walks_in};
+    ghost use Rattle.clause_list.specs.Numbers.{above};
+    ghost use Rattle.clause_list.specs.Orders.{AreWalksOver};
+
+    ghost clauses = { λ p f. borders_between (walks_in p.gaps.now) p.net.now p.cell f };
+
+    ghost fits = { λ p place f. AreWalksOver p.net.now (walks_in p.gaps.now) × (p.cell < length p.net.now.sections) × (place < length (above p.net.now p.cell)) × (slice_index (above p.net.now p.cell) place ≡ f) };
+
+    fn write(
+        &self,
+        _place: usize,
+        other: u32,
+        writer: &mut ClauseWriter,
+    ) -> Result<(), WriteFault> {
+        let number = self.net.gap(self.cell, other);
+        let _few = self.net.candidate_count();
+        write_walks(self.alloc, self.gaps, self.cell, other, number, writer)
+    }
+}
+
+// Writes the clause of each walk between two cells, where the gap has that number.
+fn write_walks(
+    alloc: Global,
+    gaps: &Gaps,
+    cell: u32,
+    other: u32,
+    number: u32,
+    writer: &mut ClauseWriter,
+) -> Result<(), WriteFault>
+    requires few { All AreFew (walks_in gaps.now cell other) }
+    requires clauses { AreClauses writer.old.vars (flat_map (on_walk_alone number) (walks_in gaps.now cell other)) }
+    ensures ok { OnOk result (Takes writer.old (flat_map (on_walk_alone number) (walks_in gaps.now cell other)) writer.new) }
+    ensures err { IfErr result (IsCause writer.old (flat_map (on_walk_alone number) (walks_in gaps.now cell other))) }
+{
+    for walk in 0..gaps.walk_count(CellId(cell), CellId(other)) {
+        match write_walk(alloc, gaps, cell, other, walk, number, writer) {
+            Ok(()) => {}
+            Err(fault) => return Err(fault),
+        }
+    }
+    Ok(())
+}
+
+// Writes the clause of that walk.
+#[tactic(auto, unfolding(crate::specs::Writing::IsCause))]
+fn write_walk(
+    alloc: Global,
+    gaps: &Gaps,
+    cell: u32,
+    other: u32,
+    walk: u32,
+    number: u32,
+    writer: &mut ClauseWriter,
+) -> Result<(), WriteFault>
+    requires within { walk < length (walks_in gaps.now cell other) }
+    requires few { AreFew (slice_index_or (walks_in gaps.now cell other) walk []) }
+    requires clauses { AreClauses writer.old.vars (on_walk_alone number (slice_index_or (walks_in gaps.now cell other) walk [])) }
+    ensures ok { OnOk result (Takes writer.old (on_walk_alone number (slice_index_or (walks_in gaps.now cell other) walk [])) writer.new) }
+    ensures err { IfErr result (IsCause writer.old (on_walk_alone number (slice_index_or (walks_in gaps.now cell other) walk []))) }
+{
+    match put_walk(alloc, gaps, cell, other, walk, number, writer) {
+        Ok(()) => writer.finish(),
+        Err(_) => Err(WriteFault::Memory),
+    }
+}
+
+// Puts the clause together.
+#[tactic(auto, unfolding(crate::specs::WalkFitting::on_walk))]
+fn put_walk(
+    alloc: Global,
+    gaps: &Gaps,
+    cell: u32,
+    other: u32,
+    walk: u32,
+    number: u32,
+    writer: &mut ClauseWriter,
+) -> Result<(), WriteFault>
+    requires within { walk < length (walks_in gaps.now cell other) }
+    requires few { AreFew (slice_index_or (walks_in gaps.now cell other) walk []) }
+    ensures ok { OnOk result (writer.new ≡ record writer.old { open_lits = on_walk number (slice_index_or (walks_in gaps.now cell other) walk []) }) }
+    ensures err { IfErr result (λ fault. fault ≡ WriteFault.Memory) }
+{
+    let mut candidates = Vec::new(alloc);
+    match gaps.put_walk(CellId(cell), CellId(other), walk, &mut candidates) {
+        Ok(()) => {}
+        Err(_) => return Err(WriteFault::Memory),
+    }
+    writer.start();
+    writer.add(is_not(number))?;
+    add_borders(&candidates, writer)
+}
+
+// Adds the borders of the candidates.
+fn add_borders(candidates: &[CandidateId], writer: &mut ClauseWriter) -> Result<(), WriteFault>
+    requires { AreFew candidates.now }
+    ensures ok { OnOk result (Adds writer.old (map border_lit candidates.now) writer.new) }
+    ensures err { IfErr result (λ fault. fault ≡ WriteFault.Memory) }
+{
+    for place in 0..candidates.len() {
+        writer.add(is(candidates[place].0 + 1))?;
+    }
+    Ok(())
+}

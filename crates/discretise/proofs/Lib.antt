@@ -1,0 +1,22 @@
+-- The lemmas and laws of `discretise`, each file a subject.
+pub mod RowLemmas
+pub mod PickLaws
+pub mod JoinLemmas
+pub mod EndLemmas
+pub mod TrackLemmas
+pub mod GridLemmas
+pub mod NetLemmas
+pub mod ChainLemmas
+pub mod KeptLemmas
+pub mod DegreeLemmas
+pub mod SoundLemmas
+pub mod SectionLemmas
+pub mod JoinLaws
+pub mod RisingLaws
+pub mod CandidateLemmas
+pub mod RestLemmas
+pub mod LabelLemmas
+pub mod RuleLemmas
+pub mod OneLemmas
+pub mod InstanceLemmas
+pub mod SceneLemmas

@@ -1,0 +1,33 @@
+-- Why `WalkTree::has_cell` does what its contract says.
+use Rattle.std.proofs.Common.{◌≡◌, ◌<◌, ◌∙◌, sym, ap, arith}
+use Rattle.gap_clauses.specs.Fans.{walk_at}
+use Rattle.gap_clauses.specs.Trees.{step_of}
+use Rattle.gap_clauses.specs.declared.tree.Branch.{Branch}
+use Rattle.gap_clauses.proofs.TreeLemmas.{before_lower, branch_within, cell_here, cell_elsewhere, no_cell_first, walk_first, walk_step}
+use Rattle.gap_clauses.proofs.tree.WalkTree.has_cell.Goals as goal
+
+pub index-branch-requires : goal.index-branch-requires
+index-branch-requires c = let low = branch_within c.self.inside.branches.items c.args.self.now c.loop-at.at c.self.view_is (omega (arith, c.loop-at-test.true)) c.loop-at.invariant.0 in omega (arith, low)
+
+pub returns-then-branch-cell : goal.returns-then-branch-cell
+returns-then-branch-cell c =
+    let b : Branch = c.index-branch.result.now in
+    let step = walk_step c.self.inside.branches.items c.args.self.now c.loop-at.at b c.self.invariant c.self.view_is (omega (arith, c.loop-at-test.true)) c.loop-at.invariant.0 (sym c.index-branch.ensures) in
+    sym (c.loop-at.invariant.1 ∙ cell_here c.args.cell _ _ (step_of b) step c.if-branch-cell.true)
+
+pub loop-at-smaller : goal.loop-at-smaller
+loop-at-smaller c = before_lower c.self.inside.branches.items c.args.self.now c.loop-at.at c.index-branch.result.now c.self.invariant c.self.view_is (omega (arith, c.loop-at-test.true)) c.loop-at.invariant.0 (sym c.index-branch.ensures)
+
+pub loop-at-preserved : goal.loop-at-preserved
+loop-at-preserved c =
+    let b : Branch = c.index-branch.result.now in
+    let some = c.loop-at-test.true in
+    let low : b.before < c.loop-at.at = before_lower c.self.inside.branches.items c.args.self.now c.loop-at.at b c.self.invariant c.self.view_is (omega (arith, some)) c.loop-at.invariant.0 (sym c.index-branch.ensures) in
+    let step = walk_step c.self.inside.branches.items c.args.self.now c.loop-at.at b c.self.invariant c.self.view_is (omega (arith, some)) c.loop-at.invariant.0 (sym c.index-branch.ensures) in
+    (omega (arith, low, c.loop-at.invariant.0), c.loop-at.invariant.1 ∙ cell_elsewhere c.args.cell _ _ (step_of b) step c.if-branch-cell.false)
+
+pub returns : goal.returns
+returns c =
+    let none : c.loop-at.at ≡ 0 = omega (arith, c.loop-at-test.false) in
+    let first = ap (λ ws. walk_at ws 0) (sym c.self.view_is) ∙ walk_first c.self.inside.branches.items in
+    sym (c.loop-at.invariant.1 ∙ no_cell_first c.args.cell _ (ap (walk_at c.args.self.now) none ∙ first))

@@ -1,0 +1,6 @@
+//! Tests of the grid, on documents.
+
+mod limits;
+mod rows;
+mod scenes;
+mod texts;

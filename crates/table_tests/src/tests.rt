@@ -1,0 +1,7 @@
+//! Tests of gaps and of sweep tables, on networks drawn by hand.
+
+mod limits;
+mod nets;
+mod plain;
+mod sweeps;
+mod walks;

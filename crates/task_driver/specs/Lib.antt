@@ -1,0 +1,6 @@
+-- What the contracts of `task_driver` cite, each file a subject.
+pub mod Questions
+pub mod Sessions
+pub mod Outcomes
+pub mod Underway
+pub mod InstanceFormulas

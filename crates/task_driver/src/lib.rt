@@ -1,0 +1,14 @@
+//! The tasks that search: whether a layout is feasible, and which one has the fewest borders.
+#![tactic(auto)]
+
+mod checking;
+mod fewest;
+mod given;
+mod laws;
+mod layers;
+
+pub use checking::check;
+pub use fewest::optimise;
+pub use given::{generate, verify};
+pub use laws::outcomes_are_true;
+pub use layers::Layers;

@@ -1,0 +1,7 @@
+//! Tests of the reader of timetables.
+
+mod days;
+mod pairs;
+mod rows;
+mod shapes;
+mod texts;

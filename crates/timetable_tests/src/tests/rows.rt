@@ -1,0 +1,245 @@
+//! The rules of timetables: each at its edge.
+
+use super::texts::{DAY, answer, changed};
+use rail_net::{ListKind, Spot};
+use std::test::Fail;
+use timetable::{TimeFault, TimeRefusal};
+
+// The rule, the list and the item that are told; what is changed, and what it becomes.
+static RULES: [(TimeFault, ListKind, u32, &str, &str); 32] = [
+    (TimeFault::BadName, ListKind::Trains, 0, r#""T0""#, r#""""#),
+    (
+        TimeFault::BadName,
+        ListKind::Trains,
+        1,
+        r#""T1""#,
+        r#""aaaaaaaaaaaaaaaaaaaaaaaaaaaaaaaaa""#,
+    ),
+    (
+        TimeFault::BadName,
+        ListKind::Trains,
+        1,
+        r#""T1""#,
+        r#""T 1""#,
+    ),
+    (
+        TimeFault::ReverseNotYet,
+        ListKind::Trains,
+        1,
+        r#""from":"D""#,
+        r#""legs":["S"],"from":"D""#,
+    ),
+    (
+        TimeFault::ReverseNotYet,
+        ListKind::Trains,
+        0,
+        r#""from":"A""#,
+        r#""legs":null,"from":"A""#,
+    ),
+    (
+        TimeFault::DuplicateName,
+        ListKind::Trains,
+        1,
+        r#""T1""#,
+        r#""T0""#,
+    ),
+    (
+        TimeFault::UnknownName,
+        ListKind::Trains,
+        0,
+        r#""from":"A""#,
+        r#""from":"Q""#,
+    ),
+    (
+        TimeFault::UnknownName,
+        ListKind::Trains,
+        0,
+        r#""to":"B""#,
+        r#""to":"t1""#,
+    ),
+    (
+        TimeFault::UnknownName,
+        ListKind::Trains,
+        1,
+        r#""to":"D""#,
+        r#""to":"S""#,
+    ),
+    (
+        TimeFault::UnknownName,
+        ListKind::Trains,
+        0,
+        r#""station":"S""#,
+        r#""station":"A""#,
+    ),
+    (
+        TimeFault::UnknownName,
+        ListKind::Trains,
+        0,
+        r#"{"station":"S","dwell_s":61}"#,
+        r#"{"station":"s1","dwell_s":61}"#,
+    ),
+    (
+        TimeFault::EndWanted,
+        ListKind::Trains,
+        0,
+        r#""from":"A""#,
+        r#""from":"J""#,
+    ),
+    (
+        TimeFault::EndWanted,
+        ListKind::Trains,
+        0,
+        r#""to":"B""#,
+        r#""to":"P""#,
+    ),
+    (
+        TimeFault::EndWanted,
+        ListKind::Trains,
+        1,
+        r#""to":"D""#,
+        r#""to":"P""#,
+    ),
+    (
+        TimeFault::StepRange,
+        ListKind::Document,
+        0,
+        r#""space_step_m":500"#,
+        r#""space_step_m":0"#,
+    ),
+    (
+        TimeFault::StepRange,
+        ListKind::Document,
+        0,
+        r#""space_step_m":500"#,
+        r#""space_step_m":100001"#,
+    ),
+    (
+        TimeFault::StepRange,
+        ListKind::Document,
+        0,
+        r#""time_step_s":60"#,
+        r#""time_step_s":0"#,
+    ),
+    (
+        TimeFault::StepRange,
+        ListKind::Document,
+        0,
+        r#"60,"horizon_s":1800"#,
+        r#"86401,"horizon_s":100000"#,
+    ),
+    (
+        TimeFault::StepRange,
+        ListKind::Document,
+        0,
+        r#""horizon_s":1800"#,
+        r#""horizon_s":59"#,
+    ),
+    (
+        TimeFault::StepRange,
+        ListKind::Document,
+        0,
+        r#""horizon_s":1800"#,
+        r#""horizon_s":10000001"#,
+    ),
+    (
+        TimeFault::TrainRange,
+        ListKind::Trains,
+        0,
+        r#""length_m":400"#,
+        r#""length_m":0"#,
+    ),
+    (
+        TimeFault::TrainRange,
+        ListKind::Trains,
+        0,
+        r#""length_m":400"#,
+        r#""length_m":1000001"#,
+    ),
+    (
+        TimeFault::TrainRange,
+        ListKind::Trains,
+        0,
+        r#""speed_kmh":120"#,
+        r#""speed_kmh":0"#,
+    ),
+    (
+        TimeFault::TrainRange,
+        ListKind::Trains,
+        0,
+        r#""speed_kmh":120"#,
+        r#""speed_kmh":501"#,
+    ),
+    (
+        TimeFault::TrainRange,
+        ListKind::Trains,
+        0,
+        r#""entry_s":0"#,
+        r#""entry_s":10000001"#,
+    ),
+    (
+        TimeFault::TrainRange,
+        ListKind::Trains,
+        0,
+        r#""arrive_s":900"#,
+        r#""arrive_s":10000001"#,
+    ),
+    (
+        TimeFault::TrainRange,
+        ListKind::Trains,
+        0,
+        r#""entry_until_s":120"#,
+        r#""entry_until_s":10000001"#,
+    ),
+    (
+        TimeFault::TrainRange,
+        ListKind::Trains,
+        0,
+        r#""dwell_s":60"#,
+        r#""dwell_s":10000001"#,
+    ),
+    (
+        TimeFault::TrainRange,
+        ListKind::Trains,
+        0,
+        r#""dwell_s":61"#,
+        r#""dwell_s":10000001"#,
+    ),
+    (
+        TimeFault::TrainRange,
+        ListKind::Trains,
+        0,
+        r#""from_s":100"#,
+        r#""from_s":10000001"#,
+    ),
+    (
+        TimeFault::TrainRange,
+        ListKind::Trains,
+        0,
+        r#""until_s":700"#,
+        r#""until_s":10000001"#,
+    ),
+    (
+        TimeFault::TrainRange,
+        ListKind::Trains,
+        1,
+        r#""speed_kmh":90"#,
+        r#""speed_kmh":18446744073709551615"#,
+    ),
+];
+
+#[test]
+fn the_first_broken_rule_is_told(rt: HostRuntime) -> Result<(), Fail> {
+    for (kind, list, item, old, new) in &RULES {
+        let text = changed(rt.alloc(), DAY, old, new)?;
+        let told = TimeRefusal::Named {
+            kind: *kind,
+            spot: Spot {
+                list: *list,
+                item: *item,
+            },
+        };
+        let got = answer(rt.alloc(), text.as_bytes())?;
+        assert_eq!(rt; got, Err(told), "{old} to {new}");
+    }
+    Ok(())
+}

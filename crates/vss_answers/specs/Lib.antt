@@ -1,0 +1,8 @@
+-- What the contracts of `vss_answers` cite, each file a subject.
+pub mod Answers
+pub mod Laws
+pub mod PrintedNames
+pub mod RefusalTexts
+pub mod RefusalWords
+pub mod Statuses
+pub mod Texts

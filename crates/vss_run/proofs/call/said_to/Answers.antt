@@ -1,0 +1,10 @@
+-- The answer follows the job.
+use Rattle.vss_stages.proofs.StageLaws.{then_ends, then_stops}
+use Rattle.vss_jobs.specs.Held.{job_in}
+use Rattle.vss_run.proofs.call.said_to.Goals as goal
+
+pub returns-in-Ok-clause-right : goal.returns-in-Ok-clause-right
+returns-in-Ok-clause-right g c = then_ends _ _ _ (job_in c.in-Ok.job) _ c.in-Ok.ensures.job c.answer_to.ensures
+
+pub returns-in-Err-clause-right : goal.returns-in-Err-clause-right
+returns-in-Err-clause-right g c = then_stops _ _ _ c.in-Err.ensures.job

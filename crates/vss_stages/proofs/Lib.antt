@@ -1,0 +1,3 @@
+-- Laws of stages, for the proofs of crates above.
+pub mod StageLaws
+pub mod InputLaws
