@@ -1,9 +1,7 @@
--- Why `number` does what its contract says.
-use Rattle.std.proofs.Common.{◌≡◌, ◌+◌, ◌∷◌, ◌++◌, true, false, arith, ap, sym, ◌∙◌, refl}
-use Rattle.std.specs.Prelude.{decimal}
-use Rattle.std.proofs.lemmas.List.{take_rest}
+-- Why `leading` does what its contract says.
+use Rattle.std.proofs.Common.{◌≡◌, true, false, arith, refl}
 use Rattle.vss_text.proofs.NumberLemmas.{AreRead-more, AreRead-number, AreRead-short, AreRead-no_digit, AreRead-ends, AreRead-stops, AreRead-room}
-use Rattle.vss_text.proofs.numbers.number.Goals as goal
+use Rattle.vss_text.proofs.numbers.leading.Goals as goal
 
 pub returns-then-count-eq0-clause-missed : goal.returns-then-count-eq0-clause-missed
 returns-then-count-eq0-clause-missed c = AreRead-no_digit c.args.text.now c.args.end c.loop-count.count c.loop-count.value c.requires c.if-count-eq0.true (omega arith) c.if-byte-end.true
@@ -12,9 +10,7 @@ pub returns-else-count-eq0-clause-short : goal.returns-else-count-eq0-clause-sho
 returns-else-count-eq0-clause-short c = AreRead-short c.args.text.now c.loop-count.count c.loop-count.value c.loop-count.invariant (omega arith)
 
 pub returns-else-count-eq0-clause-found : goal.returns-else-count-eq0-clause-found
-returns-else-count-eq0-clause-found c =
-    AreRead-number c.args.text.now c.args.end c.loop-count.count c.loop-count.value c.loop-count.invariant (omega arith) (omega arith) c.if-byte-end.true
-    ∙ ap (λ rest. decimal c.loop-count.value ++ c.args.end ∷ rest) (sym (take_rest c.args.text.now (c.loop-count.count + 1)))
+returns-else-count-eq0-clause-found c = AreRead-number c.args.text.now c.args.end c.loop-count.count c.loop-count.value c.loop-count.invariant (omega arith) (omega arith) c.if-byte-end.true
 
 pub returns-then-not-goes_on-clause-missed : goal.returns-then-not-goes_on-clause-missed
 returns-then-not-goes_on-clause-missed c =
