@@ -28,7 +28,7 @@ use Rattle.clause_encoder.specs.Families.{family_of}
 use Rattle.clause_encoder.specs.Plans.{GapLists, counted_task, plan_family, plan_list, given_list, base_list, counted_list, free_list, HasFewWalks, AreNumbers, IsNumbersRefusal, gap_refusal}
 use Rattle.clause_encoder.specs.PlanFits.{PlanFits, FitsGiven, FitsBase, FitsCount}
 use Rattle.sat_core.specs.Clauses.{IsClause}
-use Rattle.clause_list.specs.Orders.{AreNumbered}
+use Rattle.clause_list.specs.Orders.{AreAllNumbered}
 use Rattle.clause_list.proofs.WholeLaws.{base_are_clauses, given_task_are_clauses}
 use Rattle.clause_encoder.specs.Sizes.{IsSizeRefusal}
 use Rattle.clause_encoder.specs.Writing.{literal_count}
@@ -113,7 +113,7 @@ size_refused TooManyLiterals p variables clauses units gaps list are few le same
 size_refused Memory p variables clauses units gaps list are few le same cause = tt
 
 -- the numbers of an instance's trains are numbers of so many variables
-numbered_over : {X : Type 0} (items : X → ℕ) (table : X → InstanceParts → Table) (p : InstanceParts) (tables : List X) (vars : ℕ) → IsInstance p → length tables ≡ length p.trains → All (IsKnownBy items table p) tables → first_of_count p (tables_of table p tables) ≤ vars + 1 → AreNumbered vars (network_of p) (tables_of table p tables) (trains_of p (tables_of table p tables))
+numbered_over : {X : Type 0} (items : X → ℕ) (table : X → InstanceParts → Table) (p : InstanceParts) (tables : List X) (vars : ℕ) → IsInstance p → length tables ≡ length p.trains → All (IsKnownBy items table p) tables → first_of_count p (tables_of table p tables) ≤ vars + 1 → AreAllNumbered vars (network_of p) (tables_of table p tables) (trains_of p (tables_of table p tables))
 numbered_over items table p tables vars rules same known last =
     coded_are_numbered p (tables_of table p tables) vars rules (length-map tables (table_over table p) ∙ same) (tables_are items table p tables known) last
 

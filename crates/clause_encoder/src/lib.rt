@@ -52,5 +52,3 @@ pub use task::{EncodeRefusal, Task};
 pub use train::TrainNumbers;
 pub use writer::{ClauseWriter, WriteFault};
 
-#[cfg(test)]
-mod tests;

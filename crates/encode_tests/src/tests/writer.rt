@@ -1,7 +1,7 @@
 //! The writer, with ample memory: what it counts, what it keeps, and where it is full.
 ghost use Rattle.std.specs.Prelude.{◌≡◌, OnOk};
 
-use crate::{ClauseWriter, WriteFault, is, is_not};
+use clause_encoder::{ClauseWriter, WriteFault, is, is_not};
 use sat_core::{ClauseId, Lit, is_clause};
 use std::process::Abort;
 use std::test::Fail;
