@@ -88,12 +88,7 @@ fn gather_ahead<M: Moves>(
 }
 
 // The items that both mark, rising.
-fn marked_items(
-    alloc: Global,
-    count: u32,
-    one: &Bits,
-    other: &Bits,
-) -> Result<Vec<u32>, AllocError>
+fn marked_items(alloc: Global, count: u32, one: &Bits, other: &Bits) -> Result<Vec<u32>, AllocError>
     ensures { IfOk result (λ items. items.items ≡ marked_by_both count one.now other.now) }
 {
     let mut items = Vec::new(alloc);
@@ -105,12 +100,7 @@ fn marked_items(
 
 // Appends the item, if both mark it.
 #[tactic(auto, unfolding(clause_list::specs::Cones::is_in_both))]
-fn push_if_both(
-    one: &Bits,
-    other: &Bits,
-    item: u32,
-    items: &mut Vec<u32>,
-) -> Result<(), AllocError>
+fn push_if_both(one: &Bits, other: &Bits, item: u32, items: &mut Vec<u32>) -> Result<(), AllocError>
     ensures { OnOk result (items.new.items ≡ items.old.items ++ filter (is_in_both one.now other.now) (item ∷ [])) }
 {
     if one.get(item) && other.get(item) {

@@ -28,13 +28,7 @@ pub fn ahead_marks<M: Moves>(
 }
 
 #[tactic(auto, unfolding(clause_list::specs::Cones::is_ahead_by))]
-fn is_ahead<M: Moves>(
-    inst: &Instance,
-    table: &M,
-    may_enter: bool,
-    marks: &Bits,
-    item: u32,
-) -> bool
+fn is_ahead<M: Moves>(inst: &Instance, table: &M, may_enter: bool, marks: &Bits, item: u32) -> bool
     requires { item < M.items table.now }
     ensures { result ≡ is_ahead_by (M.table table.now inst.now) may_enter marks.now item }
 {
@@ -73,11 +67,7 @@ fn is_any_marked(marks: &Bits, items: &[SweepId]) -> bool
 }
 
 /// The marks of the entries.
-pub fn entry_marks<M: Moves>(
-    alloc: Global,
-    inst: &Instance,
-    table: &M,
-) -> Result<Bits, AllocError>
+pub fn entry_marks<M: Moves>(alloc: Global, inst: &Instance, table: &M) -> Result<Bits, AllocError>
     requires { M.is_made_for table.now inst.now }
     ensures { IfOk result (λ marks. marks ≡ (M.table table.now inst.now).entries) }
 {
@@ -90,11 +80,7 @@ pub fn entry_marks<M: Moves>(
 }
 
 /// The marks of the goals.
-pub fn goal_marks<M: Moves>(
-    alloc: Global,
-    inst: &Instance,
-    table: &M,
-) -> Result<Bits, AllocError>
+pub fn goal_marks<M: Moves>(alloc: Global, inst: &Instance, table: &M) -> Result<Bits, AllocError>
     requires { M.is_made_for table.now inst.now }
     ensures { IfOk result (λ marks. marks ≡ (M.table table.now inst.now).goals) }
 {

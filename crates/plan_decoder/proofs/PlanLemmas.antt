@@ -43,14 +43,6 @@ unfolding told_run_of
 one_run table values p xs trains i x a run within is numbers told =
     told ∙ ap (λ t. told_run values t a) (sym (table_is table p xs i x within is)) ∙ ap (told_run values (table_at (tables_of table p xs) i)) numbers
 
--- the rules of the tables so far
-pub rules_more : {X : Type 0} (table : X → InstanceParts → Table) (p : InstanceParts) (xs : List X) (n : ℕ) (x : X) → ((k : ℕ) (d : Table) → k < n → IsTable p (get_or (tables_of table p xs) k d)) → n < length xs → x ≡ get_or xs n x → IsTable p (table x p) → (k : ℕ) (d : Table) → k < n + 1 → IsTable p (get_or (tables_of table p xs) k d)
-rules_more table p xs n x before within is keeps k d h = ⊎_elim
-    (λ less. before k d less)
-    (λ not_less. let last : n ≡ k = omega arith in
-    subst (λ j. IsTable p (get_or (tables_of table p xs) j d)) last (subst (IsTable p) (sym (get_or-map (table_over table p) xs n x d within ∙ ap (table_over table p) (sym is))) keeps))
-    (cases_lt k n)
-
 pub size_of : {X : Type 0} (table : X → InstanceParts → Table) (p : InstanceParts) (xs : List X) → length (tables_of table p xs) ≡ length xs
 size_of table p xs = length-map xs (table_over table p)
 
@@ -82,7 +74,3 @@ borders_are values seen n layout c same is = subst (λ l. Contains l c ↔ (c.0 
 
 pub few_borders : (values seen : List Bool) (p : InstanceParts) (tables : List Table) (most : ℕ) (layout : List CandidateId) → CountTells values p tables most → seen ≡ values → layout ≡ told_layout seen (length p.candidates) → SatisfiesCount p tables most values → length layout ≤ most
 few_borders values seen p tables most layout law same is sat = subst (λ l. length l ≤ most) (sym (is ∙ ap (λ vs. told_layout vs (length p.candidates)) same)) (law sat.variables sat.few sat.counter sat.bound)
-
--- the table of a place is made for the instance
-pub made_at : {X : Type 0} (made : X → InstanceParts → Type 0) (p : InstanceParts) (xs : List X) (n : ℕ) (x : X) → All (λ y. made y p) xs → n < length xs → x ≡ get_or xs n x → made x p
-made_at made p xs n x all within is = subst (λ y. made y p) (sym is) (all n x within)

@@ -9,7 +9,7 @@ use Rattle.std.proofs.lemmas.Bool.{cases_eq}
 use Rattle.std.proofs.lemmas.List.{length-set, get_or-set_same, get_or-set_other, get_or_past, get_or_read, same_lists}
 use Rattle.std.proofs.lemmas.List.FromFn.{map-range_with_len_more, length-map-range_with_len, get_or-map-range_with_len}
 use Rattle.std.proofs.lemmas.Nat.Bits.{shr_and_one, bit_at-zero, bit_at_set_same, bit_at_set_other}
-use Rattle.vss_bits.specs.Words.{is_set, truths, AreStored, SetsOnly}
+use Rattle.vss_bits.specs.Words.{is_set, truths, AreInWords, SetsOnly}
 
 -- what the code reads is the bit
 pub reads_bit : (words : List ℕ) (place : ℕ) → nat_eq (bit_and (get_or words (place / 64) 0 / 2 ^ (place % 64)) 1) 1 ≡ is_set words place
@@ -60,19 +60,19 @@ sets_none old place clear = record { words = refl; there = clear; elsewhere = λ
 pub truths_more : (old wide new : List ℕ) (count : ℕ) (truth : Bool) → ((other : ℕ) → is_set wide other ≡ is_set old other) → SetsOnly wide count truth new → truths new (count + 1) ≡ truths old count ++ truth ∷ []
 truths_more old wide new count truth alike sets =
     let front : truths new count ≡ truths old count =
-        same_lists (truths new count) (truths old count) (length-map-range_with_len (is_set new) 0 count ∙ sym (length-map-range_with_len (is_set old) 0 count))
-        (λ k d h. let below : k < count = omega (arith, length-map-range_with_len (is_set new) 0 count) in
-        get_or-map-range_with_len (is_set new) 0 count k k d below (omega arith) ∙ (sets.elsewhere k (λ e. absurd (omega (arith, e))) ∙ (alike k ∙ sym (get_or-map-range_with_len (is_set old) 0 count k k d below (omega arith))))) in
+    same_lists (truths new count) (truths old count) (length-map-range_with_len (is_set new) 0 count ∙ sym (length-map-range_with_len (is_set old) 0 count))
+    (λ k d h. let below : k < count = omega (arith, length-map-range_with_len (is_set new) 0 count) in
+    get_or-map-range_with_len (is_set new) 0 count k k d below (omega arith) ∙ (sets.elsewhere k (λ e. absurd (omega (arith, e))) ∙ (alike k ∙ sym (get_or-map-range_with_len (is_set old) 0 count k k d below (omega arith))))) in
     map-range_with_len_more (is_set new) 0 count count (omega arith) ∙ (ap (λ ts. ts ++ is_set new count ∷ []) front ∙ ap (λ t. truths old count ++ t ∷ []) sets.there)
 
-pub stored_none : (words : List ℕ) → words ≡ [] → AreStored words 0
+pub stored_none : (words : List ℕ) → words ≡ [] → AreInWords words 0
 unfolding is_set
-stored_none words none = subst (λ ws. AreStored ws 0) (sym none) (record {
+stored_none words none = subst (λ ws. AreInWords ws 0) (sym none) (record {
   room = refl;
   clear = λ place h. ap (λ b. nat_eq b 1) (bit_at-zero (place % 64));
 })
 
-pub stored_more : (old wide new : List ℕ) (count : ℕ) (truth : Bool) → AreStored old count → length wide ≡ count / 64 + 1 → ((other : ℕ) → is_set wide other ≡ is_set old other) → SetsOnly wide count truth new → AreStored new (count + 1)
+pub stored_more : (old wide new : List ℕ) (count : ℕ) (truth : Bool) → AreInWords old count → length wide ≡ count / 64 + 1 → ((other : ℕ) → is_set wide other ≡ is_set old other) → SetsOnly wide count truth new → AreInWords new (count + 1)
 stored_more old wide new count truth stored size alike sets = record {
   room = let same : length new ≡ length wide = sets.words in omega arith;
   clear = λ place h. sets.elsewhere place (λ e. absurd (omega (arith, e))) ∙ (alike place ∙ stored.clear place (omega arith));

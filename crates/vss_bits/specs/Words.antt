@@ -12,7 +12,7 @@ abbrev pub truths : List ℕ → ℕ → List Bool
 truths words count = map (is_set words) (range_with_len 0 count)
 
 -- there are words for so many bits and no more, and no bit behind these is set
-pub record AreStored (words : List ℕ) (count : ℕ) : Type 0 where
+pub record AreInWords (words : List ℕ) (count : ℕ) : Type 0 where
   pub room : length words ≡ (count + 63) / 64
   pub clear : (place : ℕ) → count ≤ place → is_set words place ≡ false
 

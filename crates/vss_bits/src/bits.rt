@@ -1,6 +1,6 @@
 //! Truths in words of 64 bits.
 ghost use Rattle.std.specs.Prelude.{◌≡◌, ℕ, ◌<◌, ◌+◌, ◌/◌, ◌^◌, ◌-◌, ◌++◌, ◌∷◌, [], false, length, slice_index_or, IfOk, OnErr, OnOk};
-ghost use Rattle.vss_bits.specs.Words.{is_set, AreStored, SetsOnly};
+ghost use Rattle.vss_bits.specs.Words.{is_set, AreInWords, SetsOnly};
 
 use std::alloc::{AllocError, Global};
 use std::marker::Model;
@@ -14,13 +14,13 @@ pub struct Bits {
 
 impl Model for Bits {
     ghost use Rattle.std.specs.Prelude.{Bool, List};
-    ghost use Rattle.vss_bits.specs.Words.{truths, AreStored};
+    ghost use Rattle.vss_bits.specs.Words.{truths, AreInWords};
 
     ghost Value = { List Bool };
 
     ghost view = { λ b. truths b.words.items b.count };
 
-    ghost invariant = { λ b. AreStored b.words.items b.count };
+    ghost invariant = { λ b. AreInWords b.words.items b.count };
 }
 
 impl Bits {
@@ -74,7 +74,7 @@ fn is_set_in(words: &[u64], place: u32) -> bool
 
 // Appends a word where the place is the first behind them.
 fn make_room(words: &mut Vec<u64>, place: u32) -> Result<(), AllocError>
-    requires { AreStored words.old.items place }
+    requires { AreInWords words.old.items place }
     ensures ok { OnOk result (length words.new.items ≡ place / 64 + 1) }
     ensures bits { (other : ℕ) → is_set words.new.items other ≡ is_set words.old.items other }
     ensures err { OnErr result (words.new.items ≡ words.old.items) }
