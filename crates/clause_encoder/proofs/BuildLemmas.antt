@@ -1,9 +1,9 @@
 -- Steps of the loops that make the numbers of trains, and that what is made is kept.
-use Rattle.std.proofs.Common.{◌≡◌, ℕ, zero, suc, ◌+◌, ◌-◌, ◌*◌, ◌<◌, ◌≤◌, ◌^◌, List, [], ◌∷◌, ◌++◌, length, take, get_or, map, min, max, refl, sym, ap, ◌∙◌, subst, arith}
+use Rattle.std.proofs.Common.{◌≡◌, ℕ, zero, suc, ◌+◌, ◌-◌, ◌*◌, ◌<◌, ◌≤◌, ◌^◌, List, [], ◌∷◌, ◌++◌, length, take, get_or, map, refl, sym, ap, ◌∙◌, subst, arith}
 use Rattle.std.specs.Prelude.{All, Some, slice_get}
 use Rattle.std.specs.List.{sum_by}
-use Rattle.std.proofs.lemmas.List.{get_or-map, length-map, take_more}
-use Rattle.std.proofs.lemmas.List.Sums.{sum_by_more_le, sum_by_more}
+use Rattle.std.proofs.lemmas.List.{get_or-map, length-map}
+use Rattle.std.proofs.lemmas.List.Sums.{sum_by_more}
 use Rattle.cell_net.specs.declared.parts.InstanceParts.{InstanceParts}
 use Rattle.cell_net.specs.declared.trains.StopSpec.{StopSpec}
 use Rattle.cell_net.specs.declared.trains.TrainSpec.{TrainSpec}
@@ -16,7 +16,7 @@ use Rattle.clause_list.specs.WholeList.{no_table}
 use Rattle.clause_list.specs.Numbers.{CodedTrain, behind_train, first_touch, first_ended, first_met, first_waits}
 use Rattle.clause_list.specs.Coding.{coded, coded_from, behind_all}
 use Rattle.clause_list.proofs.ListLaws.{length-below, at_below, range_rises}
-use Rattle.clause_encoder.specs.TrainStore.{IsRising, IsKeptTrain, IsTrainStore, beginning_count, step_number, stop_number}
+use Rattle.clause_encoder.specs.TrainStore.{IsRising, IsTrainStore, beginning_count, step_number, stop_number}
 use Rattle.clause_encoder.specs.TrainFaults.{IsNumberFault}
 use Rattle.clause_encoder.specs.declared.build.NumberFault.{NumberFault}
 use Rattle.clause_encoder.specs.declared.build.NumberFault.TheVariants.{TooMany, Memory}

@@ -1,15 +1,13 @@
 -- Laws of the numbers of a train's variables, and of a search in a rising list.
-use Rattle.std.proofs.Common.{◌≡◌, ◌≢◌, ℕ, zero, suc, ◌+◌, ◌-◌, ◌*◌, ◌<◌, ◌≤◌, ◌^◌, Bool, true, false, List, [], ◌∷◌, length, take, get_or, min, max, refl, sym, ap, ◌∙◌, subst, ⊎_elim, arith}
-use Rattle.std.specs.Prelude.{All, nat_eq, slice_index_or}
+use Rattle.std.proofs.Common.{◌≡◌, ◌≢◌, ℕ, suc, ◌+◌, ◌-◌, ◌*◌, ◌<◌, ◌≤◌, ◌^◌, false, List, [], ◌∷◌, length, take, get_or, min, max, refl, sym, ap, ◌∙◌, subst, ⊎_elim, arith}
+use Rattle.std.specs.Prelude.{nat_eq, slice_index_or}
 use Rattle.std.specs.List.{sum_by, position_or_len, list_any}
 use Rattle.std.proofs.lemmas.List.Sums.{sum_by_more_le, position_or_len_is}
 use Rattle.std.proofs.lemmas.Bool.{eq-eqb, cases_lt}
 use Rattle.std.proofs.lemmas.Bool.Decides.{eqb_tells}
 use Rattle.std.proofs.Math.Nat.{mul-le-mul_right}
-use Rattle.clause_list.specs.Ranges.{from_below}
-use Rattle.clause_list.specs.Numbers.{CodedTrain, cone, sweep, touch, run_ended, waits, beginnings, first_touch, first_ended, first_met, first_waits, behind_train}
-use Rattle.clause_list.specs.StopClauses.{stop_at, no_stop, meets}
-use Rattle.cell_net.specs.declared.trains.StopSpec.{StopSpec}
+use Rattle.clause_list.specs.Numbers.{CodedTrain, cone, sweep, touch, beginnings, first_ended, first_waits, behind_train}
+use Rattle.clause_list.specs.StopClauses.{stop_at, no_stop}
 use Rattle.clause_list.proofs.ListLaws.{length-from_below}
 use Rattle.clause_encoder.specs.TrainStore.{IsRising, IsKeptTrain, IsTrainStore, IsSearched, first_of_step, first_of_stop}
 

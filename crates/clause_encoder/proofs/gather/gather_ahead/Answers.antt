@@ -1,7 +1,6 @@
 -- Why `gather_ahead` does what its contract says.
 use Rattle.std.proofs.Common.{◌≡◌, ◌+◌, ◌≤◌, ◌++◌, ◌∷◌, [], ◌∙◌, sym, ap, arith, length}
-use Rattle.std.specs.Prelude.{nat_lt}
-use Rattle.clause_list.specs.Cones.{ahead_after, cone_at}
+use Rattle.clause_list.specs.Cones.{cone_at}
 use Rattle.clause_encoder.proofs.GatherLemmas.{gathered_none, gathered_more, too_many, home_row, is_cone}
 use Rattle.clause_encoder.proofs.gather.gather_ahead.Goals as goal
 
