@@ -1,7 +1,6 @@
 -- Steps of the loops over trains, and what the laws say of what is decoded.
 use Rattle.std.proofs.Common.{◌≡◌, ℕ, ◌+◌, ◌-◌, ◌<◌, ◌≤◌, Bool, true, List, [], ◌∷◌, ◌++◌, length, get_or, map, refl, sym, ap, ◌∙◌, subst, ⊎_elim, arith}
-use Rattle.std.specs.Prelude.{All, Contains, ◌↔◌}
-use Rattle.std.proofs.lemmas.Bool.{cases_lt}
+use Rattle.std.specs.Prelude.{Contains, ◌↔◌}
 use Rattle.std.proofs.lemmas.List.{get_or-map, length-map}
 use Rattle.std.proofs.lemmas.List.FromFn.{map-range_with_len_more}
 use Rattle.cell_net.specs.Rules.{IsInstance}
@@ -9,7 +8,7 @@ use Rattle.cell_net.specs.declared.ids.CandidateId.{CandidateId}
 use Rattle.cell_net.specs.declared.plans.Plan.{Plan}
 use Rattle.cell_net.specs.declared.plans.TrainRun.{TrainRun}
 use Rattle.cell_net.specs.declared.parts.InstanceParts.{InstanceParts}
-use Rattle.sweep_table.specs.Tables.{Table, IsTable}
+use Rattle.sweep_table.specs.Tables.{Table}
 use Rattle.clause_list.specs.Coding.{trains_of}
 use Rattle.clause_list.specs.Numbers.{CodedTrain, border}
 use Rattle.clause_list.specs.Ranges.{from_below, below}

@@ -144,13 +144,8 @@ static ROWS: [(Large, Asked, Sizes); 11] = [
 fn lists_are_refused_beyond_their_limits(rt: HostRuntime) -> Result<(), Fail> {
     for (large, asked, want) in ROWS {
         let inst = built(&rt, rt.alloc(), large_parts(rt.alloc(), large)?)?;
-        match encode_asked(&rt, rt.alloc(), &inst, asked)? {
-            Ok(Encoded { formula, .. }) => {
-                let sizes = (formula.vars(), formula.len(), literals_of(&rt, &formula));
-                assert!(rt; want == Ok(sizes));
-            }
-            Err(refusal) => assert!(rt; want == Err(refusal)),
-        }
+        let found = encode_asked(&rt, rt.alloc(), &inst, asked)?;
+        assert!(rt; sizes_of(&rt, found) == want);
     }
     Ok(())
 }
@@ -160,13 +155,7 @@ fn lists_are_refused_beyond_their_limits(rt: HostRuntime) -> Result<(), Fail> {
 fn a_base_is_refused_beyond_its_limits(rt: HostRuntime) -> Result<(), Fail> {
     for (large, more, want) in BASES {
         let inst = built(&rt, rt.alloc(), large_parts(rt.alloc(), large)?)?;
-        match encode_base(rt.alloc(), &inst, more) {
-            Ok(Encoded { formula, .. }) => {
-                let sizes = (formula.vars(), formula.len(), literals_of(&rt, &formula));
-                assert!(rt; want == Ok(sizes));
-            }
-            Err(refusal) => assert!(rt; want == Err(refusal)),
-        }
+        assert!(rt; sizes_of(&rt, encode_base(rt.alloc(), &inst, more)) == want);
     }
     Ok(())
 }
@@ -193,6 +182,11 @@ static BASES: [(Large, u32, Sizes); 5] = [
         Err(EncodeRefusal::TooManyClauses),
     ),
 ];
+
+fn sizes_of(rt: &impl Abort, found: Result<Encoded, EncodeRefusal>) -> Sizes {
+    let Encoded { formula, .. } = found?;
+    Ok((formula.vars(), formula.len(), literals_of(rt, &formula)))
+}
 
 fn literals_of(rt: &impl Abort, formula: &Formula) -> usize {
     let mut count: usize = 0;
