@@ -4,6 +4,3 @@
 mod bits;
 
 pub use bits::Bits;
-
-#[cfg(test)]
-mod tests;
