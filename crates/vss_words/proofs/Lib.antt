@@ -1,0 +1,4 @@
+-- What the proofs of `vss_words` share.
+pub mod FormLemmas
+pub mod NumberLemmas
+pub mod RowLemmas
