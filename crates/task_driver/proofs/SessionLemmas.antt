@@ -4,7 +4,7 @@ use Rattle.std.specs.Prelude.{Option, Some, None}
 use Rattle.std.proofs.lemmas.Bool.Decides.{nat_tests}
 use Rattle.std.proofs.lemmas.List.{map-append, append-nil, append_assoc}
 use Rattle.sat_core.specs.declared.literal.Lit.{Lit}
-use Rattle.sat_core.specs.Derivation.{DerivedStep, EndsInEmptyClause}
+use Rattle.sat_core.specs.Derivation.{DerivedStep}
 use Rattle.sat_core.specs.Clauses.{IsTrueIn}
 use Rattle.std.specs.Prelude.{All}
 use Rattle.std.proofs.lemmas.List.Elements.{All-head, All-tail}
@@ -19,9 +19,9 @@ use Rattle.solver_face.specs.Solving.{Solving, IsSound, IsSolution, ShowsSolutio
 use Rattle.solver_face.proofs.SolvingLaws.{conflicts_grow, search_is}
 use Rattle.sat_core.proofs.SearchLaws.{adds_given, units_given, units_searched}
 use Rattle.task_driver.specs.Questions.{of_fewest, Formulas}
-use Rattle.task_driver.specs.Sessions.{Entry, bound, step, bounds_of, BeginsWithBound, last_of, event_of, events_of, IsLater, AreLater, IsBest}
+use Rattle.task_driver.specs.Sessions.{Entry, bound, step, bounds_of, BeginsWithBound, last_of, event_of, session_events, IsLater, AreLater, IsBest}
 use Rattle.task_driver.specs.Outcomes.{IsSpent}
-use Rattle.task_driver.specs.Underway.{last_number, IsUnderway, IsRefutedSearch}
+use Rattle.task_driver.specs.Underway.{last_number, IsUnderway}
 
 bounds_of-append : (one other : List Entry) → bounds_of (one ++ other) ≡ bounds_of one ++ bounds_of other
 bounds_of-append [] other = refl
@@ -32,14 +32,14 @@ pub bounds_of-steps : (steps : List DerivedStep) → bounds_of (map step steps) 
 bounds_of-steps [] = refl
 bounds_of-steps (s ∷ steps) = bounds_of-steps steps
 
-events_of-append : (u : ℕ → Lit) (most : ℕ) (one other : List Entry) → events_of u most (one ++ other) ≡ events_of u most one ++ events_of u most other
-events_of-append u most [] other = refl
-events_of-append u most (entry ∷ one) other =
-    ap (λ es. event_of u most entry ++ es) (events_of-append u most one other) ∙ sym (append_assoc (event_of u most entry) (events_of u most one) (events_of u most other))
+session_events-append : (u : ℕ → Lit) (most : ℕ) (one other : List Entry) → session_events u most (one ++ other) ≡ session_events u most one ++ session_events u most other
+session_events-append u most [] other = refl
+session_events-append u most (entry ∷ one) other =
+    ap (λ es. event_of u most entry ++ es) (session_events-append u most one other) ∙ sym (append_assoc (event_of u most entry) (session_events u most one) (session_events u most other))
 
-pub events_of-steps : (u : ℕ → Lit) (most : ℕ) (steps : List DerivedStep) → events_of u most (map step steps) ≡ map derives steps
-events_of-steps u most [] = refl
-events_of-steps u most (s ∷ steps) = ap (λ es. derives s ∷ es) (events_of-steps u most steps)
+pub session_events-steps : (u : ℕ → Lit) (most : ℕ) (steps : List DerivedStep) → session_events u most (map step steps) ≡ map derives steps
+session_events-steps u most [] = refl
+session_events-steps u most (s ∷ steps) = ap (λ es. derives s ∷ es) (session_events-steps u most steps)
 
 begins-append : (one other : List Entry) → BeginsWithBound one → BeginsWithBound (one ++ other)
 begins-append [] other begins = absurd begins
@@ -91,8 +91,8 @@ search_underway f p budget before now had left bounds best was searched = record
   vars = searched.same_vars ∙ was.vars;
   formula = searched.same_formula ∙ was.formula;
   events = searched.grew ∙ (ap (λ es. es ++ map derives searched.steps) was.events
-      ∙ (ap (λ es. events_of f.unit (length p.candidates) was.entries ++ es) (sym (events_of-steps f.unit (length p.candidates) searched.steps))
-      ∙ sym (events_of-append f.unit (length p.candidates) was.entries (map step searched.steps))));
+      ∙ (ap (λ es. session_events f.unit (length p.candidates) was.entries ++ es) (sym (session_events-steps f.unit (length p.candidates) searched.steps))
+      ∙ sym (session_events-append f.unit (length p.candidates) was.entries (map step searched.steps))));
   units = ap units_of searched.grew ∙ (units_searched before.events searched.steps ∙ was.units);
   sound = searched.sound;
   spent =
@@ -132,8 +132,8 @@ bound_underway f p budget before now left bounds best k layout plan was vars for
       vars = vars ∙ was.vars;
       formula = formula ∙ was.formula;
       events = given ∙ (ap (λ es. es ++ gives (f.unit k) ∷ []) was.events
-          ∙ (ap (λ (b : Bool). events_of f.unit n was.entries ++ (cond b (gives (f.unit k) ∷ []) [] ++ [])) (sym test)
-          ∙ sym (events_of-append f.unit n was.entries (bound (AtMost k) ∷ []))));
+          ∙ (ap (λ (b : Bool). session_events f.unit n was.entries ++ (cond b (gives (f.unit k) ∷ []) [] ++ [])) (sym test)
+          ∙ sym (session_events-append f.unit n was.entries (bound (AtMost k) ∷ []))));
       units = ap units_of given ∙ (units_given before.events (f.unit k) ∙ (ap (λ us. us ++ f.unit k ∷ []) was.units ∙ sym (map-append f.unit bounds (k ∷ []))));
       sound = sound;
       spent =
@@ -164,7 +164,7 @@ spent_underway f p budget s left bounds best was gone ends none = record {
 }
 
 -- bounds fall
-falling_step : (p : InstanceParts) (m k : ℕ) → IsLater p (AtMost m) (AtMost k) → (k < m) × (length p.kept ≤ k)
+pub falling_step : (p : InstanceParts) (m k : ℕ) → IsLater p (AtMost m) (AtMost k) → (k < m) × (length p.kept ≤ k)
 falling_step p m k later =
     let one : k ≡ later.most = at_most_one k later.most later.is in
     let other : m ≡ later.had = at_most_one m later.had later.was in
@@ -174,7 +174,7 @@ falling_step p m k later =
     at_most_one a b e = cc
 
 -- the last bound behind the first is below it, and no fewer than are kept
-falling_last : (p : InstanceParts) (m k : ℕ) (bounds : List ℕ) → AreLater p of_fewest (AtMost m) (map AtMost (k ∷ bounds)) → (last_number k bounds < m) × (length p.kept ≤ last_number k bounds)
+pub falling_last : (p : InstanceParts) (m k : ℕ) (bounds : List ℕ) → AreLater p of_fewest (AtMost m) (map AtMost (k ∷ bounds)) → (last_number k bounds < m) × (length p.kept ≤ last_number k bounds)
 falling_last p m k [] are = falling_step p m k are.0
 falling_last p m k (j ∷ bounds) are =
     let first = falling_step p m k are.0 in
@@ -198,18 +198,6 @@ count_within p u values (k ∷ bounds) count are all few most =
 pub last_within : (p : InstanceParts) (bounds : List ℕ) → AreLater p of_fewest (AtMost (length p.candidates)) (map AtMost bounds) → last_number (length p.candidates) bounds ≤ length p.candidates
 last_within p [] are = omega arith
 last_within p (k ∷ bounds) are = let below : last_number k bounds < length p.candidates = (falling_last p (length p.candidates) k bounds are).0 in omega arith
-
--- the search is refuted: its log refutes the free formula with the units
-pub refuted_underway : (f : Formulas) (p : InstanceParts) (budget : ℕ) (s : Solving) (left : ℕ) (bounds : List ℕ) (best : Option (List CandidateId × Plan)) (log : List DerivedStep)
-    → IsUnderway f p budget s left bounds best → log ≡ log_of s.events → EndsInEmptyClause (log_of s.events) → IsRefutedSearch f p log bounds
-refuted_underway f p budget s left bounds best log was is ends = record {
-  events = s.events;
-  log_is = is;
-  units_are = was.units;
-  search = search_is s f.free_vars f.free was.sound was.vars was.formula;
-  refuted = subst EndsInEmptyClause (sym is) ends;
-  falling = was.falling;
-}
 
 -- the best design has one border more than the last bound
 pub best_count : (p : InstanceParts) (most : ℕ) (bounds : List ℕ) (layout : List CandidateId) (plan : Plan)
