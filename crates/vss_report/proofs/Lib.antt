@@ -25,3 +25,4 @@ pub mod WrittenPlaces
 pub mod WrittenLines
 pub mod ReadBack
 pub mod ReadBackLog
+pub mod ReportLengths

@@ -1,5 +1,5 @@
 //! The reader of a refutation.
-ghost use Rattle.std.specs.Prelude.{◌≤◌, ◌^◌, length};
+ghost use Rattle.std.specs.Prelude.{◌≤◌, ◌^◌, IfOk, length};
 ghost use Rattle.vss_report.specs.Refutations.{IsRefutationReading};
 
 use crate::fault::ReportFault;
@@ -16,7 +16,9 @@ use vss_lists::Items;
 /// `BadLine` at the first line at which the text goes wrong; `NoPart` where the report states no refutation.
 pub fn read_refutation(alloc: Global, bytes: &[u8]) -> Result<(Refutation, u32), ReportFault>
     requires { length bytes.now ≤ 2 ^ 30 }
-    ensures { IsRefutationReading bytes.now result }
+    ensures reading { IsRefutationReading bytes.now result }
+    ensures line { IfOk result (λ found. found.1 ≤ length bytes.now) }
+    ensures short { IfOk result (λ found. length found.0.log.steps ≤ length bytes.now) }
 {
     let mut gathered = Gathered::new(alloc);
     let mut place = Place::Start;

@@ -4,7 +4,7 @@ use Rattle.vss_stages.proofs.StageLaws.{hands_value, hands_refusal, stops_by}
 use Rattle.vss_report.specs.DesignFaults.{IsDesignReading}
 use Rattle.vss_jobs.specs.Settings.{setting_of}
 use Rattle.vss_jobs.specs.Readings.{report_stop, design_job, ReadsDesign}
-use Rattle.vss_jobs.proofs.making.design_of.Goals as goal
+use Rattle.vss_jobs.proofs.reports.design_of.Goals as goal
 
 pub returns-in-Ok-clause-job : goal.returns-in-Ok-clause-job
 returns-in-Ok-clause-job c = record {

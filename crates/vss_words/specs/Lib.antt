@@ -1,0 +1,4 @@
+-- What the contracts of `vss_words` cite, each file a subject.
+pub mod Commands
+pub mod Forms
+pub mod Numbers

@@ -1,0 +1,15 @@
+//! The words of the command line: which command they ask for, read by `clap`.
+#![tactic(auto)]
+
+mod command;
+mod fault;
+mod forms;
+mod numbers;
+mod parse;
+mod reading;
+mod task;
+mod words;
+
+pub use command::{Command, DocumentNames};
+pub use fault::WordsFault;
+pub use words::command_of;
