@@ -13,10 +13,10 @@ use Rattle.solver_face.specs.Solving.{Solving, Searched, EndsInAdd, AddNoEmptyCl
 use Rattle.solver_face.proofs.SolvingLaws.{search_is, conflicts_grow}
 use Rattle.sat_core.proofs.SearchLaws.{log_of-derives}
 use Rattle.task_driver.specs.Questions.{of_kept, of_at_most, Formulas}
-use Rattle.task_driver.specs.Sessions.{bound, step, events_of}
+use Rattle.task_driver.specs.Sessions.{bound, step, session_events}
 use Rattle.task_driver.specs.Outcomes.{IsSpent, formula_of}
 use Rattle.task_driver.proofs.GivenLemmas.{given_first}
-use Rattle.task_driver.proofs.SessionLemmas.{events_of-steps, bounds_of-steps}
+use Rattle.task_driver.proofs.SessionLemmas.{session_events-steps, bounds_of-steps}
 
 -- the events of a search without units are its steps, and each is accepted in its turn
 accepted_alone : (s : Search) (steps : List DerivedStep) → AreNext s (map derives steps) → AreAccepted s.database steps
@@ -47,7 +47,7 @@ pub spent_given : (f : Formulas) (p : InstanceParts) (before now : Solving) (had
     → left ≡ 0 → EndsInAdd (log_of now.events) → AddNoEmptyClause (log_of now.events) → IsSpent f p of_kept had had None
 spent_given f p before now had left none same_vars same_formula searched gone ends no_empty =
     let n : ℕ = length p.candidates in
-    let events : events_of f.unit n (bound Given ∷ map step searched.steps) ≡ now.events = events_of-steps f.unit n searched.steps ∙ sym (first_events before now had left searched none) in
+    let events : session_events f.unit n (bound Given ∷ map step searched.steps) ≡ now.events = session_events-steps f.unit n searched.steps ∙ sym (first_events before now had left searched none) in
     record {
       entries = bound Given ∷ map step searched.steps;
       session = record {
@@ -84,9 +84,9 @@ pub spent_within : (f : Formulas) (p : InstanceParts) (most : ℕ) (before now :
 spent_within f p most before now had left none same_vars same_formula over searched gone ends no_empty =
     let n : ℕ = length p.candidates in
     let k : ℕ = min most n in
-    let tail : events_of f.unit n (map step searched.steps) ≡ now.events = events_of-steps f.unit n searched.steps ∙ sym (first_events before now had left searched none) in
-    let events : events_of f.unit n (bound (AtMost k) ∷ map step searched.steps) ≡ cond (nat_lt k n) (gives (f.unit k) ∷ []) [] ++ now.events = ap (λ (e : List Event). cond (nat_lt k n) (gives (f.unit k) ∷ []) [] ++ e) tail in
-    let log : log_of (events_of f.unit n (bound (AtMost k) ∷ map step searched.steps)) ≡ log_of now.events = ap log_of events ∙ log_given_or_not (f.unit k) (nat_lt k n) now.events in
+    let tail : session_events f.unit n (map step searched.steps) ≡ now.events = session_events-steps f.unit n searched.steps ∙ sym (first_events before now had left searched none) in
+    let events : session_events f.unit n (bound (AtMost k) ∷ map step searched.steps) ≡ cond (nat_lt k n) (gives (f.unit k) ∷ []) [] ++ now.events = ap (λ (e : List Event). cond (nat_lt k n) (gives (f.unit k) ∷ []) [] ++ e) tail in
+    let log : log_of (session_events f.unit n (bound (AtMost k) ∷ map step searched.steps)) ≡ log_of now.events = ap log_of events ∙ log_given_or_not (f.unit k) (nat_lt k n) now.events in
     record {
       entries = bound (AtMost k) ∷ map step searched.steps;
       session = record {

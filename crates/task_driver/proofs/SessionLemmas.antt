@@ -19,7 +19,7 @@ use Rattle.solver_face.specs.Solving.{Solving, IsSound, IsSolution, ShowsSolutio
 use Rattle.solver_face.proofs.SolvingLaws.{conflicts_grow, search_is}
 use Rattle.sat_core.proofs.SearchLaws.{adds_given, units_given, units_searched}
 use Rattle.task_driver.specs.Questions.{of_fewest, Formulas}
-use Rattle.task_driver.specs.Sessions.{Entry, bound, step, bounds_of, BeginsWithBound, last_of, event_of, events_of, IsLater, AreLater, IsBest}
+use Rattle.task_driver.specs.Sessions.{Entry, bound, step, bounds_of, BeginsWithBound, last_of, event_of, session_events, IsLater, AreLater, IsBest}
 use Rattle.task_driver.specs.Outcomes.{IsSpent}
 use Rattle.task_driver.specs.Underway.{last_number, IsUnderway, IsRefutedSearch}
 
@@ -32,14 +32,14 @@ pub bounds_of-steps : (steps : List DerivedStep) → bounds_of (map step steps) 
 bounds_of-steps [] = refl
 bounds_of-steps (s ∷ steps) = bounds_of-steps steps
 
-events_of-append : (u : ℕ → Lit) (most : ℕ) (one other : List Entry) → events_of u most (one ++ other) ≡ events_of u most one ++ events_of u most other
-events_of-append u most [] other = refl
-events_of-append u most (entry ∷ one) other =
-    ap (λ es. event_of u most entry ++ es) (events_of-append u most one other) ∙ sym (append_assoc (event_of u most entry) (events_of u most one) (events_of u most other))
+session_events-append : (u : ℕ → Lit) (most : ℕ) (one other : List Entry) → session_events u most (one ++ other) ≡ session_events u most one ++ session_events u most other
+session_events-append u most [] other = refl
+session_events-append u most (entry ∷ one) other =
+    ap (λ es. event_of u most entry ++ es) (session_events-append u most one other) ∙ sym (append_assoc (event_of u most entry) (session_events u most one) (session_events u most other))
 
-pub events_of-steps : (u : ℕ → Lit) (most : ℕ) (steps : List DerivedStep) → events_of u most (map step steps) ≡ map derives steps
-events_of-steps u most [] = refl
-events_of-steps u most (s ∷ steps) = ap (λ es. derives s ∷ es) (events_of-steps u most steps)
+pub session_events-steps : (u : ℕ → Lit) (most : ℕ) (steps : List DerivedStep) → session_events u most (map step steps) ≡ map derives steps
+session_events-steps u most [] = refl
+session_events-steps u most (s ∷ steps) = ap (λ es. derives s ∷ es) (session_events-steps u most steps)
 
 begins-append : (one other : List Entry) → BeginsWithBound one → BeginsWithBound (one ++ other)
 begins-append [] other begins = absurd begins
@@ -91,8 +91,8 @@ search_underway f p budget before now had left bounds best was searched = record
   vars = searched.same_vars ∙ was.vars;
   formula = searched.same_formula ∙ was.formula;
   events = searched.grew ∙ (ap (λ es. es ++ map derives searched.steps) was.events
-      ∙ (ap (λ es. events_of f.unit (length p.candidates) was.entries ++ es) (sym (events_of-steps f.unit (length p.candidates) searched.steps))
-      ∙ sym (events_of-append f.unit (length p.candidates) was.entries (map step searched.steps))));
+      ∙ (ap (λ es. session_events f.unit (length p.candidates) was.entries ++ es) (sym (session_events-steps f.unit (length p.candidates) searched.steps))
+      ∙ sym (session_events-append f.unit (length p.candidates) was.entries (map step searched.steps))));
   units = ap units_of searched.grew ∙ (units_searched before.events searched.steps ∙ was.units);
   sound = searched.sound;
   spent =
@@ -132,8 +132,8 @@ bound_underway f p budget before now left bounds best k layout plan was vars for
       vars = vars ∙ was.vars;
       formula = formula ∙ was.formula;
       events = given ∙ (ap (λ es. es ++ gives (f.unit k) ∷ []) was.events
-          ∙ (ap (λ (b : Bool). events_of f.unit n was.entries ++ (cond b (gives (f.unit k) ∷ []) [] ++ [])) (sym test)
-          ∙ sym (events_of-append f.unit n was.entries (bound (AtMost k) ∷ []))));
+          ∙ (ap (λ (b : Bool). session_events f.unit n was.entries ++ (cond b (gives (f.unit k) ∷ []) [] ++ [])) (sym test)
+          ∙ sym (session_events-append f.unit n was.entries (bound (AtMost k) ∷ []))));
       units = ap units_of given ∙ (units_given before.events (f.unit k) ∙ (ap (λ us. us ++ f.unit k ∷ []) was.units ∙ sym (map-append f.unit bounds (k ∷ []))));
       sound = sound;
       spent =

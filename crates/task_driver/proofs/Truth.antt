@@ -1,5 +1,5 @@
 -- What outcomes show of the formulas of an instance is true.
-use Rattle.std.proofs.Common.{◌≡◌, ◌≢◌, ℕ, zero, suc, ◌<◌, ◌≤◌, ◌^◌, eqb, List, [], ◌∷◌, ◌++◌, length, get_or, map, refl, sym, ap, ◌∙◌, subst, ⊎_elim, arith, Some}
+use Rattle.std.proofs.Common.{◌≡◌, ◌≢◌, ℕ, zero, suc, ◌+◌, ◌*◌, ◌/◌, ◌<◌, ◌≤◌, ◌^◌, eqb, List, [], ◌∷◌, ◌++◌, length, get_or, map, refl, sym, ap, ◌∙◌, subst, ⊎_elim, arith, Some}
 use Rattle.std.specs.Prelude.{AllPairs, Contains}
 use Rattle.std.specs.List.{IsDistinct, AllZip}
 use Rattle.std.proofs.lemmas.Bool.{cases_lt}
@@ -30,9 +30,21 @@ use Rattle.clause_list.specs.WholeList.{counted_families, whole}
 use Rattle.clause_list.proofs.ListLaws.{is_in, is_there}
 use Rattle.plan_laws.specs.Satisfied.{AreTables}
 use Rattle.plan_values.specs.Laws.{GivenRefutes, FreeRefutes}
-use Rattle.task_driver.specs.Questions.{IsPossible}
-use Rattle.task_driver.specs.Outcomes.{formula_of, RefuteBound}
-use Rattle.task_driver.specs.InstanceFormulas.{formulas_of, OutcomesAreTrue}
+use Rattle.task_driver.specs.Questions.{IsPossible, Formulas}
+use Rattle.std.proofs.Math.Nat.{div-le_of_le-mul}
+use Rattle.std.proofs.lemmas.Nat.{mul-le}
+use Rattle.derivation_log.specs.Steps.{derived_steps}
+use Rattle.border_counter.specs.Counter.{sum_to}
+use Rattle.clause_encoder.specs.Plans.{GapLists}
+use Rattle.clause_encoder.specs.Encoding.{task_variables}
+use Rattle.clause_encoder.specs.declared.limits.TheConstants.{VARIABLES}
+use Rattle.clause_encoder.specs.declared.task.Task.{Task}
+use Rattle.clause_encoder.specs.declared.task.Task.TheVariants as Task
+use Rattle.log_checker.specs.Verdicts.{IsVerdict}
+use Rattle.log_checker.specs.declared.verdict.LogVerdict.TheVariants as verdict
+use Rattle.task_driver.specs.Outcomes.{vars_of, formula_of, RefuteBound, AreComplete}
+use Rattle.task_driver.specs.InstanceFormulas.{formulas_of}
+use Rattle.task_driver.specs.TaskEnds.{task_of, bound_task, AreFormulasOf, OutcomesAreTrue, RefutationsAreTrue}
 use Rattle.task_driver.proofs.MeaningLemmas.{CountsOfLayouts, answers}
 
 -- candidates that rise at each place rise
@@ -100,13 +112,45 @@ formula_is p gaps tables most =
     let bound : List (List Lit) = most_clauses (first_of_count p tables) (length p.candidates) most in
     sym (flat_map-append (λ (each : List (List Lit)). each) counted (bound ∷ []) ∙ ap (λ xs. whole counted ++ xs) (append-nil bound))
 
+-- nothing satisfies what a log refutes
+abbrev LogsAreSound : Type 0
+LogsAreSound = (vars : ℕ) (clauses : List (List Lit)) (steps : List DerivedStep) → Refutes vars clauses steps → IsUnsatisfiable vars clauses
+
+refutes_bound : (f : Formulas) (p : InstanceParts) (b : Bound) (steps : List DerivedStep) → IsVerdict (vars_of f b) (formula_of f p b) steps verdict.Refutes → RefuteBound f p b steps
+refutes_bound f p b steps is = is
+
 -- refuted bounds are impossible
-is_complete : (p : InstanceParts) (gaps : List (List (List (List CandidateId)))) (tables : List Table) → IsInstance p → AreGaps p gaps → AreTables p tables → AllZip (IsTableOf p) p.trains tables → free_variables p tables < 2 ^ 32 → ((vars : ℕ) (clauses : List (List Lit)) (steps : List DerivedStep) → Refutes vars clauses steps → IsUnsatisfiable vars clauses) → GivenRefutes p gaps tables p.kept → ((most : ℕ) → FreeRefutes p gaps tables most) → (b : Bound) (steps : List DerivedStep) → RefuteBound (formulas_of p gaps tables) p b steps → ¬ IsPossible p b
+is_complete : (p : InstanceParts) (gaps : List (List (List (List CandidateId)))) (tables : List Table) → IsInstance p → AreGaps p gaps → AreTables p tables → AllZip (IsTableOf p) p.trains tables → free_variables p tables < 2 ^ 32 → LogsAreSound → GivenRefutes p gaps tables p.kept → ((most : ℕ) → FreeRefutes p gaps tables most) → (b : Bound) (steps : List DerivedStep) → RefuteBound (formulas_of p gaps tables) p b steps → ¬ IsPossible p b
 is_complete p gaps tables rules gap_rules are swept numbers sound given free Given steps refutes =
     given rules gap_rules are swept (kept_layout p rules) (sound _ _ steps refutes)
 is_complete p gaps tables rules gap_rules are swept numbers sound given free (AtMost most) steps refutes =
     free most rules gap_rules are swept numbers (subst (IsUnsatisfiable (free_variables p tables)) (formula_is p gaps tables most) (sound (free_variables p tables) (formula_of (formulas_of p gaps tables) p (AtMost most)) steps refutes))
 
-pub outcomes_true : (p : InstanceParts) (gaps : List (List (List (List CandidateId)))) (tables : List Table) → ((vars : ℕ) (clauses : List (List Lit)) (steps : List DerivedStep) → Refutes vars clauses steps → IsUnsatisfiable vars clauses) → GivenRefutes p gaps tables p.kept → ((most : ℕ) → FreeRefutes p gaps tables most) → OutcomesAreTrue p gaps tables
-outcomes_true p gaps tables sound given free rules gap_rules are swept numbers q budget o shows =
-    answers (formulas_of p gaps tables) p q budget o (is_complete p gaps tables rules gap_rules are swept numbers sound given free) (layout_counts p rules) shows
+-- the sum of so few numbers is small
+few_to : (n : ℕ) → n ≤ 512 → sum_to n ≤ 131328
+unfolding sum_to
+few_to n few =
+    let product : n * (n + 1) ≤ 512 * 513 = mul-le n (n + 1) 512 513 few (omega arith) in
+    div-le_of_le-mul 2 (omega arith)
+
+-- a task within the sizes has a free task of few variables beside it
+pub few_numbers : (p : InstanceParts) (task : Task) (tables : List Table) → IsInstance p → task_variables p tables task ≤ VARIABLES → free_variables p tables < 2 ^ 32
+few_numbers p (Task.Given layout) tables rules few =
+    let more : sum_to (length p.candidates) ≤ 131328 = few_to (length p.candidates) rules.few_candidates in
+    omega (arith, few)
+few_numbers p Task.Free tables rules few = omega (arith, few)
+
+-- refuted bounds are impossible
+pub complete : (p : InstanceParts) (task : Task) (f : Formulas) → LogsAreSound → ((gaps : GapLists) (tables : List Table) → GivenRefutes p gaps tables p.kept) → ((gaps : GapLists) (tables : List Table) (most : ℕ) → FreeRefutes p gaps tables most)
+    → IsInstance p → AreFormulasOf p task f → AreComplete f p
+complete p task f sound given free rules are =
+    subst (λ (g : Formulas). AreComplete g p) (sym are.formulas_are)
+    (is_complete p are.gaps are.tables rules are.are_gaps are.are_tables are.swept (few_numbers p task are.tables rules are.few.few_variables) sound (given are.gaps are.tables) (free are.gaps are.tables))
+
+pub outcomes_true : (p : InstanceParts) → LogsAreSound → ((gaps : GapLists) (tables : List Table) → GivenRefutes p gaps tables p.kept) → ((gaps : GapLists) (tables : List Table) (most : ℕ) → FreeRefutes p gaps tables most) → OutcomesAreTrue p
+outcomes_true p sound given free rules q budget o end =
+    answers end.formulas p q budget o (complete p (task_of p q) end.formulas sound given free rules end.are) (layout_counts p rules) end.shows
+
+pub refutations_true : (p : InstanceParts) → LogsAreSound → ((gaps : GapLists) (tables : List Table) → GivenRefutes p gaps tables p.kept) → ((gaps : GapLists) (tables : List Table) (most : ℕ) → FreeRefutes p gaps tables most) → RefutationsAreTrue p
+refutations_true p sound given free rules r end =
+    complete p (bound_task p r.bound) end.formulas sound given free rules end.are r.bound (derived_steps r.log.steps) (refutes_bound end.formulas p r.bound (derived_steps r.log.steps) end.is)

@@ -4,3 +4,4 @@ pub mod Sessions
 pub mod Outcomes
 pub mod Underway
 pub mod InstanceFormulas
+pub mod TaskEnds

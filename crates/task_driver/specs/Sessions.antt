@@ -39,9 +39,9 @@ event_of unit_of most (bound (AtMost k)) = cond (nat_lt k most) (gives (unit_of 
 event_of unit_of most (step s) = derives s ∷ []
 
 -- what a solver of the first formula is given and derives
-abbrev pub events_of : (ℕ → Lit) → ℕ → List Entry → List Event
-events_of unit_of most [] = []
-events_of unit_of most (entry ∷ entries) = event_of unit_of most entry ++ events_of unit_of most entries
+abbrev pub session_events : (ℕ → Lit) → ℕ → List Entry → List Event
+session_events unit_of most [] = []
+session_events unit_of most (entry ∷ entries) = event_of unit_of most entry ++ session_events unit_of most entries
 
 -- a later bound asks for fewer borders than a feasible layout has, and for no fewer than are kept
 pub record IsLater (p : InstanceParts) (before next : Bound) : Type 0 where
@@ -81,10 +81,10 @@ pub record IsSession (f : Formulas) (p : InstanceParts) (q : Question) (budget :
   pub bounds : bounds_of entries ≡ first_bound p q ∷ later
   pub begins : BeginsWithBound entries
   pub falling : AreLater p q (first_bound p q) later
-  pub search : AreNext (search_of (first_vars f q) (first_formula f q)) (events_of f.unit (length p.candidates) entries)
-  pub conflicts : adds_in (log_of (events_of f.unit (length p.candidates) entries)) ≡ budget
-  pub last_adds : EndsInAdd (log_of (events_of f.unit (length p.candidates) entries))
-  pub none_empty : AddNoEmptyClause (log_of (events_of f.unit (length p.candidates) entries))
+  pub search : AreNext (search_of (first_vars f q) (first_formula f q)) (session_events f.unit (length p.candidates) entries)
+  pub conflicts : adds_in (log_of (session_events f.unit (length p.candidates) entries)) ≡ budget
+  pub last_adds : EndsInAdd (log_of (session_events f.unit (length p.candidates) entries))
+  pub none_empty : AddNoEmptyClause (log_of (session_events f.unit (length p.candidates) entries))
 
 -- the best design, behind the first bound: none just where there was no later bound, and else a lawful one of a border
 -- more than the last bound

@@ -8,7 +8,7 @@ use Rattle.sat_core.specs.Search.{Event, search_of, AreNext, log_of, units_of, a
 use Rattle.sat_core.specs.Derivation.{DerivedStep, EndsInEmptyClause}
 use Rattle.solver_face.specs.Solving.{Solving, IsSound}
 use Rattle.task_driver.specs.Questions.{of_fewest, Formulas}
-use Rattle.task_driver.specs.Sessions.{Entry, bounds_of, BeginsWithBound, events_of, AreLater, IsBest}
+use Rattle.task_driver.specs.Sessions.{Entry, bounds_of, BeginsWithBound, session_events, AreLater, IsBest}
 
 -- the last of the numbers, or that one
 abbrev pub last_number : ℕ → List ℕ → ℕ
@@ -23,7 +23,7 @@ pub record IsUnderway (f : Formulas) (p : InstanceParts) (budget : ℕ) (s : Sol
   pub falling : AreLater p of_fewest (AtMost (length p.candidates)) (map AtMost bounds)
   pub vars : s.vars ≡ f.free_vars
   pub formula : s.formula ≡ f.free
-  pub events : s.events ≡ events_of f.unit (length p.candidates) entries
+  pub events : s.events ≡ session_events f.unit (length p.candidates) entries
   pub units : units_of s.events ≡ map f.unit bounds
   pub sound : IsSound s
   pub spent : adds_in (log_of s.events) + left ≡ budget

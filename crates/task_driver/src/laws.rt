@@ -1,18 +1,26 @@
-//! The law of outcomes, which a call hands to its caller's proof.
-ghost use Rattle.std.specs.Prelude.{List};
-ghost use Rattle.cell_net.specs.declared.ids.CandidateId.{CandidateId};
+//! Laws of the ends of tasks, which a call hands to its caller's proof. The calls do nothing.
 ghost use Rattle.cell_net.specs.declared.parts.InstanceParts.{InstanceParts};
-ghost use Rattle.sweep_table.specs.Tables.{Table};
-ghost use Rattle.task_driver.specs.InstanceFormulas.{OutcomesAreTrue};
+ghost use Rattle.task_driver.specs.TaskEnds.{OutcomesAreTrue, RefutationsAreTrue, SearchesEndAlike, ChecksAreOne};
 
 use plan_values::refuted_tasks_are_impossible;
 use sat_core::refutations_are_sound;
 
-/// What an outcome shows of the formulas of an instance is true of its layouts and plans: a design that is shown to have the
-/// fewest borders has, and what is shown to be impossible is. A call does nothing; it gives its caller's proof this law.
+/// What a search answers is true of layouts and plans: a design is lawful, the least one has the fewest borders, and what is
+/// told to be impossible is. Where a check finds that a log refutes, nothing within its bound is feasible.
 pub fn outcomes_are_true()
-    ensures { (p : InstanceParts) (gaps : List (List (List (List CandidateId)))) (tables : List Table) → OutcomesAreTrue p gaps tables }
+    ensures outcomes { (p : InstanceParts) → OutcomesAreTrue p }
+    ensures refutations { (p : InstanceParts) → RefutationsAreTrue p }
 {
     refutations_are_sound();
     refuted_tasks_are_impossible();
 }
+
+/// Of two searches for one answer both are refused alike for their size, or none is; but for want of memory.
+pub fn searches_end_alike()
+    ensures { (p : InstanceParts) → SearchesEndAlike p }
+{}
+
+/// Two checks of one refutation end alike, but for want of memory.
+pub fn checks_are_one()
+    ensures { (p : InstanceParts) → ChecksAreOne p }
+{}

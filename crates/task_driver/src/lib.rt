@@ -5,10 +5,8 @@ mod checking;
 mod fewest;
 mod given;
 mod laws;
-mod layers;
 
 pub use checking::check;
 pub use fewest::optimise;
 pub use given::{generate, verify};
-pub use laws::outcomes_are_true;
-pub use layers::Layers;
+pub use laws::{checks_are_one, outcomes_are_true, searches_end_alike};
