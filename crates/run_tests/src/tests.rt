@@ -3,10 +3,13 @@
 
 mod asking;
 mod breaches;
+mod checking;
 mod documents;
 mod judging;
 mod lengths;
 mod refusals;
 mod reports;
+mod searching;
+mod starved;
 mod words;
 mod writing;

@@ -22,9 +22,9 @@ files_named (Make seed size) = []
 files_named (Trial seed size budget) = []
 
 -- the files that are read where the words ask for this
-abbrev pub files_of : Option Command → List (List ℕ)
-files_of (Some asked) = files_named asked
-files_of None = []
+abbrev pub files_asked_for : Option Command → List (List ℕ)
+files_asked_for (Some asked) = files_named asked
+files_asked_for None = []
 
 -- the stage of the words: the command that they ask for, or the usage line just where they ask for none
 abbrev pub IsCommand : List (List ℕ) → Result Command (Stop Refusal) → Type 0

@@ -67,10 +67,10 @@ abbrev pub IsJob : List (List ℕ) → Files → Files → Result Job (Stop Refu
 IsJob words before after = Then (IsCommand words) (IsJobOf before after)
 
 -- what the tasks ask of their job
-abbrev pub IsReady : Job → Type 0
-IsReady (judging setting borders plan) =
+abbrev pub IsReadyJob : Job → Type 0
+IsReadyJob (judging setting borders plan) =
     IsBorderSet setting.parts borders × (length plan.runs ≡ length setting.parts.trains) × All (λ r. length r.sweeps < 2000000000) plan.runs
-IsReady (checking setting refutation line) = (length refutation.log.steps ≤ 2 ^ 30) × (line ≤ 2 ^ 30)
-IsReady (searching setting search budget) = IsBudget budget
-IsReady (making network timetable) = Unit {0}
-IsReady (trying setting budget) = IsBudget budget
+IsReadyJob (checking setting refutation line) = (length refutation.log.steps ≤ 2 ^ 30) × (line ≤ 2 ^ 30)
+IsReadyJob (searching setting search budget) = IsBudget budget
+IsReadyJob (making network timetable) = Unit {0}
+IsReadyJob (trying setting budget) = IsBudget budget

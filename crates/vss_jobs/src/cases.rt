@@ -4,7 +4,7 @@ ghost use Rattle.std.specs.Prelude.{IfOk};
 ghost use Rattle.vss_stages.specs.Stages.{Ends};
 ghost use Rattle.vss_words.specs.Commands.{IsBudget, IsSize};
 ghost use Rattle.vss_jobs.specs.Held.{job_in};
-ghost use Rattle.vss_jobs.specs.Jobs.{IsCaseJob, IsTrialJob, IsReady};
+ghost use Rattle.vss_jobs.specs.Jobs.{IsCaseJob, IsTrialJob, IsReadyJob};
 
 use crate::documents::scene_of_texts;
 use crate::job::Job;
@@ -18,7 +18,7 @@ use vss_stages::Stop;
 pub fn making_case(alloc: Global, seed: u32, size: u32) -> Result<Job, Stop<Refusal>>
     requires { IsSize size }
     ensures job { Ends (IsCaseJob seed size) job_in result }
-    ensures ready { IfOk result (λ job. IsReady (job_in job)) }
+    ensures ready { IfOk result (λ job. IsReadyJob (job_in job)) }
 {
     match make_case(alloc, seed, size) {
         Ok(made) => Ok(Job::Make {
@@ -34,7 +34,7 @@ pub fn trying_case(alloc: Global, seed: u32, size: u32, budget: u32) -> Result<J
     requires size { IsSize size }
     requires budget { IsBudget budget }
     ensures job { Ends (IsTrialJob seed size budget) job_in result }
-    ensures ready { IfOk result (λ job. IsReady (job_in job)) }
+    ensures ready { IfOk result (λ job. IsReadyJob (job_in job)) }
 {
     let made = match make_case(alloc, seed, size) {
         Ok(made) => made,

@@ -4,9 +4,9 @@ ghost use Rattle.std.specs.Prelude.{◌≡◌, IfOk, IsErrOf, map, string_bytes}
 ghost use Rattle.vss_io.specs.Reading.{Keeps};
 ghost use Rattle.vss_stages.specs.Stages.{Then, Ends};
 ghost use Rattle.vss_words.specs.Commands.{command, HasInRange, IsBudget, NamesTask};
-ghost use Rattle.vss_jobs.specs.Asked.{files_named, files_of, names_of_documents};
+ghost use Rattle.vss_jobs.specs.Asked.{files_named, files_asked_for, names_of_documents};
 ghost use Rattle.vss_jobs.specs.Held.{job_in};
-ghost use Rattle.vss_jobs.specs.Jobs.{IsReady, IsJobOf, IsJob, IsSettingOf, IsSearchJob};
+ghost use Rattle.vss_jobs.specs.Jobs.{IsReadyJob, IsJobOf, IsJob, IsSettingOf, IsSearchJob};
 
 use crate::cases::{making_case, trying_case};
 use crate::documents::read_documents;
@@ -25,9 +25,9 @@ pub fn job_of<H: Shelf>(
     words: &[String],
     shelf: &mut H,
 ) -> Result<Job, Stop<Refusal>>
-    ensures kept { Keeps (H.shown shelf.old) (H.shown shelf.new) (files_of (command (map string_bytes words.now))) }
+    ensures kept { Keeps (H.shown shelf.old) (H.shown shelf.new) (files_asked_for (command (map string_bytes words.now))) }
     ensures job { Ends (IsJob (map string_bytes words.now) (H.shown shelf.old) (H.shown shelf.new)) job_in result }
-    ensures ready { IfOk result (λ job. IsReady (job_in job)) }
+    ensures ready { IfOk result (λ job. IsReadyJob (job_in job)) }
     ensures memory { IsErrOf result Stop.Memory → NamesTask (map string_bytes words.now) }
 {
     match command_of(alloc, words) {
@@ -42,7 +42,7 @@ fn job_for<H: Shelf>(alloc: Global, asked: &Command, shelf: &mut H) -> Result<Jo
     requires { HasInRange asked.now }
     ensures kept { Keeps (H.shown shelf.old) (H.shown shelf.new) (files_named asked.now) }
     ensures job { Ends (IsJobOf (H.shown shelf.old) (H.shown shelf.new) asked.now) job_in result }
-    ensures ready { IfOk result (λ job. IsReady (job_in job)) }
+    ensures ready { IfOk result (λ job. IsReadyJob (job_in job)) }
 {
     match asked {
         Command::Verify { documents, budget } => {
@@ -80,7 +80,7 @@ fn searching<H: Shelf>(
     requires { IsBudget budget }
     ensures kept { Keeps (H.shown shelf.old) (H.shown shelf.new) (names_of_documents names.now) }
     ensures job { Ends (Then (IsSettingOf (H.shown shelf.old) (H.shown shelf.new) names.now) (IsSearchJob search budget)) job_in result }
-    ensures ready { IfOk result (λ job. IsReady (job_in job)) }
+    ensures ready { IfOk result (λ job. IsReadyJob (job_in job)) }
 {
     match read_documents(alloc, names, shelf) {
         Ok(scene) => Ok(Job::Search {

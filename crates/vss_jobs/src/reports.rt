@@ -9,7 +9,7 @@ ghost use Rattle.vss_jobs.specs.Asked.{names_of_documents};
 ghost use Rattle.vss_jobs.specs.Held.{job_in};
 ghost use Rattle.vss_jobs.specs.Settings.{setting_of};
 ghost use Rattle.vss_jobs.specs.Readings.{ReadsDesign, ReadsRefutation};
-ghost use Rattle.vss_jobs.specs.Jobs.{IsSettingOf, IsReady};
+ghost use Rattle.vss_jobs.specs.Jobs.{IsSettingOf, IsReadyJob};
 
 use crate::documents::read_documents;
 use crate::job::Job;
@@ -31,7 +31,7 @@ pub fn judging<H: Shelf>(
 ) -> Result<Job, Stop<Refusal>>
     ensures kept { Keeps (H.shown shelf.old) (H.shown shelf.new) (names_of_documents names.now ++ report.now ∷ []) }
     ensures job { Ends (ThenFile (λ from to. IsSettingOf from to names.now) (H.shown shelf.old) (H.shown shelf.new) report_file report.now ReadsDesign) job_in result }
-    ensures ready { IfOk result (λ job. IsReady (job_in job)) }
+    ensures ready { IfOk result (λ job. IsReadyJob (job_in job)) }
 {
     let scene = match read_documents(alloc, names, shelf) {
         Ok(scene) => scene,
@@ -52,7 +52,7 @@ pub fn checking<H: Shelf>(
 ) -> Result<Job, Stop<Refusal>>
     ensures kept { Keeps (H.shown shelf.old) (H.shown shelf.new) (names_of_documents names.now ++ report.now ∷ []) }
     ensures job { Ends (ThenFile (λ from to. IsSettingOf from to names.now) (H.shown shelf.old) (H.shown shelf.new) report_file report.now ReadsRefutation) job_in result }
-    ensures ready { IfOk result (λ job. IsReady (job_in job)) }
+    ensures ready { IfOk result (λ job. IsReadyJob (job_in job)) }
 {
     let scene = match read_documents(alloc, names, shelf) {
         Ok(scene) => scene,
@@ -68,7 +68,7 @@ pub fn checking<H: Shelf>(
 fn design_of(alloc: Global, scene: Scene, bytes: &[u8]) -> Result<Job, Stop<Refusal>>
     requires { length bytes.now ≤ 2 ^ 30 }
     ensures job { Ends (ReadsDesign (setting_of scene) bytes.now) job_in result }
-    ensures ready { IfOk result (λ job. IsReady (job_in job)) }
+    ensures ready { IfOk result (λ job. IsReadyJob (job_in job)) }
 {
     match read_design(alloc, bytes, &scene) {
         Ok(design) => Ok(Job::Judge {
@@ -84,7 +84,7 @@ fn design_of(alloc: Global, scene: Scene, bytes: &[u8]) -> Result<Job, Stop<Refu
 fn refutation_of(alloc: Global, scene: Scene, bytes: &[u8]) -> Result<Job, Stop<Refusal>>
     requires { length bytes.now ≤ 2 ^ 30 }
     ensures job { Ends (ReadsRefutation (setting_of scene) bytes.now) job_in result }
-    ensures ready { IfOk result (λ job. IsReady (job_in job)) }
+    ensures ready { IfOk result (λ job. IsReadyJob (job_in job)) }
 {
     match read_refutation(alloc, bytes) {
         Ok(found) => Ok(Job::Check {

@@ -31,4 +31,4 @@ pub use laws::{
 pub use names::{name_of_track, name_of_train};
 pub use outcome::{Design, Outcome, Smaller};
 pub use refutation::read_refutation;
-pub use report_writer::write_report;
+pub use report_writer::{write_outcome, write_report};

@@ -17,8 +17,19 @@ use vss_io::{Sink, SinkFault, print_line};
 pub fn write_report<K: Sink>(scene: &Scene, outcome: &Outcome, out: &mut K) -> Result<(), SinkFault>
     ensures { Prints (K.shown out.old) (K.shown out.new) (report_text scene.now.labels outcome.now) result }
 {
+    write_outcome(&scene.labels, outcome, out)
+}
+
+/// The same for a scene with these labels.
+pub fn write_outcome<K: Sink>(
+    labels: &Labels,
+    outcome: &Outcome,
+    out: &mut K,
+) -> Result<(), SinkFault>
+    ensures { Prints (K.shown out.old) (K.shown out.new) (report_text labels.now outcome.now) result }
+{
     print_line(&[b"vssplan report 1"], out)?;
-    write_verdict(&scene.labels, outcome, out)?;
+    write_verdict(labels, outcome, out)?;
     print_line(&[b"end"], out)
 }
 

@@ -1,1 +1,1 @@
--- What the proofs of `vss_words` share.
+-- Laws of words.

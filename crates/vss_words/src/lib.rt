@@ -3,10 +3,6 @@
 
 mod command;
 mod fault;
-mod forms;
-mod numbers;
-mod parse;
-mod reading;
 mod task;
 mod words;
 
