@@ -13,7 +13,7 @@ use Rattle.vss_text.specs.declared.miss.Miss.{Miss}
 use Rattle.vss_text.specs.declared.miss.Miss.TheVariants.{Short, Wrong}
 use Rattle.vss_text.proofs.ReadingLaws.{misses_first, misses_second, misses_named, misses_either}
 use Rattle.vss_report.specs.Lines.{CellName, sign, cell_text, spaced, IsSpelledCell}
-use Rattle.vss_report.specs.Readings.{named, AreCells, cells_line, HasCells}
+use Rattle.vss_report.specs.Readings.{named, AreSweepCells, cells_line, HasCells}
 use Rattle.vss_report.proofs.LineReadings.{cell_read_once}
 use Rattle.vss_report.proofs.PartLemmas.{letter, name_read_once}
 
@@ -116,7 +116,7 @@ some_fits : IsSpelledCell some_cell
 unfolding some_cell
 some_fits = record { track = letter; index = omega arith }
 
-within_cells : (text rest tail : List ℕ) (cell : CellName) → (front : IsCellsFront text rest) → IsSpelledCell cell → rest ++ tail ≡ spaced cell → EndsWithin AreCells cells_line text
+within_cells : (text rest tail : List ℕ) (cell : CellName) → (front : IsCellsFront text rest) → IsSpelledCell cell → rest ++ tail ≡ spaced cell → EndsWithin AreSweepCells cells_line text
 within_cells text rest tail cell front fits is = record {
   item = front.cells ++ cell ∷ [];
   more = tail ++ 10 ∷ [];
@@ -130,12 +130,12 @@ within_cells text rest tail cell front fits is = record {
 }
 
 -- the text ends between two cells
-pub cells_end : (text rest : List ℕ) → IsCellsFront text rest → length rest ≡ 0 → EndsWithin AreCells cells_line text
+pub cells_end : (text rest : List ℕ) → IsCellsFront text rest → length rest ≡ 0 → EndsWithin AreSweepCells cells_line text
 cells_end text [] front none = within_cells text [] (spaced some_cell) some_cell front some_fits refl
 cells_end text (b ∷ rest) front none = absurd (omega arith)
 
 -- behind a blank no cell stands, so these are no cells
-pub no_cell : (text rest behind : List ℕ) (miss : Miss) → IsCellsFront text rest → rest ≡ 32 ∷ behind → Misses IsSpelledCell cell_text behind miss → Misses AreCells cells_line text miss
+pub no_cell : (text rest behind : List ℕ) (miss : Miss) → IsCellsFront text rest → rest ≡ 32 ∷ behind → Misses IsSpelledCell cell_text behind miss → Misses AreSweepCells cells_line text miss
 unfolding NeverBegins
 no_cell text rest behind Short front is missed =
     within_cells text rest missed.more missed.item front missed.fits (ap (λ b. b ++ missed.more) is ∙ ap (λ b. 32 ∷ b) missed.goes_on)
@@ -150,7 +150,7 @@ no_cell text rest behind Wrong front is missed = λ cells more after fits same.
         (append_cancel_left (32 ∷ []) (behind ++ more) (cell_text cell ++ (flat_map spaced later ++ 10 ∷ after)) (same ∙ ap (λ b. 32 ∷ b) (append_assoc (cell_text cell) (flat_map spaced later) (10 ∷ after))))
 
 -- neither a further cell nor, behind some, the end of the line
-pub no_end : (text rest : List ℕ) → IsCellsFront text rest → 0 < length rest → slice_index rest 0 ≢ 32 → (slice_index rest 0 ≢ 10) ⊎ (length rest ≡ length text) → NeverBegins AreCells cells_line text
+pub no_end : (text rest : List ℕ) → IsCellsFront text rest → 0 < length rest → slice_index rest 0 ≢ 32 → (slice_index rest 0 ≢ 10) ⊎ (length rest ≡ length text) → NeverBegins AreSweepCells cells_line text
 unfolding NeverBegins
 no_end text rest front some no_blank bad = λ cells more after fits same.
     let on = goes_on_from text rest more after cells front fits.1 same in
@@ -193,6 +193,6 @@ cells_found text rest front some feed fewer =
 pub one_cell : List CellName
 one_cell = some_cell ∷ []
 
-pub one_fits : AreCells one_cell
+pub one_fits : AreSweepCells one_cell
 unfolding one_cell
 one_fits = (omega arith, All-push IsSpelledCell [] some_cell (All-nil IsSpelledCell) some_fits)

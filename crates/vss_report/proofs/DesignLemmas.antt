@@ -12,14 +12,14 @@ use Rattle.cell_net.specs.declared.plans.Plan.{Plan}
 use Rattle.cell_net.specs.declared.plans.TrainRun.{TrainRun}
 use Rattle.vss_text.specs.Lines.{lines_of}
 use Rattle.vss_text.specs.Reading.{EndsWithin, NeverBegins}
-use Rattle.vss_report.specs.DesignFaults.{IsPlace, HasCellsOfRun, StatesDesign, BeginsWell, ReachesDesign, IsDesignFault}
+use Rattle.vss_report.specs.DesignFaults.{IsPlaceNumber, HasCellsOfRun, StatesDesign, BeginsWell, ReachesDesign, IsDesignFault}
 use Rattle.vss_report.specs.Designs.{sweep_line, lines_of_run, lines_of_runs, borders_in, runs_in, runs_begun}
 use Rattle.vss_report.specs.Faults.{IsWrongHere}
-use Rattle.vss_report.specs.Fits.{Fits, FitBehind, HasAllRuns}
-use Rattle.vss_report.specs.Lines.{ReportLine, header, verdict_done, verdict_impossible, verdict_spent, conflicts, best_none, count, border, run, sweep, smaller_none, refutes, step, end_line, kind_of, line_text, full_text, text_of}
+use Rattle.vss_report.specs.Fits.{LineFits, FitBehind, HasAllRuns}
+use Rattle.vss_report.specs.Lines.{ReportLine, header, verdict_done, verdict_impossible, verdict_spent, conflicts, best_none, count, border, run, sweep, smaller_none, refutes, step, end_line, kind_of, line_text, full_text, text_of_lines}
 use Rattle.vss_report.specs.Names.{place_named}
-use Rattle.vss_report.specs.Places.{kinds_at, place_after, MayStand, Leads}
-use Rattle.vss_report.specs.Taken.{AreRising, AreTaken, StandsBehind, IsOfDesign, IsFaultOf, IsWhole, IsLineFault}
+use Rattle.vss_report.specs.Places.{kinds_at, place_after, MayStand, LinesLead}
+use Rattle.vss_report.specs.Taken.{AreRising, AreTaken, StandsBehind, IsOfDesign, IsFaultOfLine, IsTakenWhole, IsLineFault}
 use Rattle.vss_report.specs.declared.design_parts.DesignParts.{DesignParts}
 use Rattle.vss_report.specs.declared.fault.ReportFault.{ReportFault}
 use Rattle.vss_report.specs.declared.fault.ReportFault.TheVariants.{BadLine, UnknownName, NoPart, Memory}
@@ -62,7 +62,7 @@ begins_well labels bytes number place rest parts to = record {
 
 -- the next line has a fault for the scene
 pub faulty_line : (labels : Labels) (bytes : List ℕ) (number : ℕ) (place : Place) (rest behind : List ℕ) (l : ReportLine) (parts : DesignParts) (fault : ReportFault) → (to : IsTakenTo labels bytes number place rest parts) → MayStand place l → rest ≡ full_text l ++ behind
-    → IsFaultOf labels to.read.lines l number fault → IsLineFault labels bytes fault
+    → IsFaultOfLine labels to.read.lines l number fault → IsLineFault labels bytes fault
 unfolding IsReadTo-more
 faulty_line labels bytes number place rest behind l parts (BadLine n) to may is fault =
     inr (record { before = begins_well labels bytes number place rest parts to; line = l; behind = behind; may_stand = may; is_next = is; counted = fault.0 ∙ to.read.counted; fault = fault.1 })
@@ -124,9 +124,9 @@ wrong_line_behind labels bytes number place rest parts at to some = at_end (subs
       wrong = wrong_behind bytes number rest to.read some;
     })
 
-pub is_whole : (labels : Labels) (bytes : List ℕ) (number : ℕ) (place : Place) (rest : List ℕ) (parts : DesignParts) → place ≡ Finished → length rest ≡ 0 → IsTakenTo labels bytes number place rest parts → IsWhole labels bytes parts
+pub is_whole : (labels : Labels) (bytes : List ℕ) (number : ℕ) (place : Place) (rest : List ℕ) (parts : DesignParts) → place ≡ Finished → length rest ≡ 0 → IsTakenTo labels bytes number place rest parts → IsTakenWhole labels bytes parts
 is_whole labels bytes number place [] parts at none to = record {
-  report = record { lines = to.read.lines; leads = subst (Leads Start to.read.lines) at to.read.read.leads; spelled = to.read.read.spelled; text = to.read.read.so_far ∙ append-nil (text_of to.read.lines) };
+  report = record { lines = to.read.lines; leads = subst (LinesLead Start to.read.lines) at to.read.read.leads; spelled = to.read.read.spelled; text = to.read.read.so_far ∙ append-nil (text_of_lines to.read.lines) };
   taken = to.taken;
   few = omega (arith, to.read.room);
 }
@@ -149,23 +149,23 @@ ends_finished from (step s) at = cc
 ends_finished from end_line at = refl
 
 -- lines that fit and end a report have all runs
-pub ends_with_all : (labels : Labels) (from : Place) (before lines : List ReportLine) → from ≢ Finished → Leads from lines Finished → FitBehind labels before lines → HasAllRuns labels (before ++ lines)
+pub ends_with_all : (labels : Labels) (from : Place) (before lines : List ReportLine) → from ≢ Finished → LinesLead from lines Finished → FitBehind labels before lines → HasAllRuns labels (before ++ lines)
 ends_with_all labels from before [] due leads fit = absurd (due leads)
 ends_with_all labels from before (l ∷ []) due leads fit =
     let is : l ≡ end_line = ends_finished from l leads.1 in
-    let all : HasAllRuns labels before = subst (Fits labels before) is fit.0 in
+    let all : HasAllRuns labels before = subst (LineFits labels before) is fit.0 in
     subst (λ x. HasAllRuns labels (before ++ x ∷ [])) (sym is) (λ begun. omega (arith, all (sym (has_design-push before end_line refl) ∙ begun), runs_begun-append before (end_line ∷ [])))
 ends_with_all labels from before (l ∷ m ∷ lines) due leads fit =
     subst (HasAllRuns labels) (append_assoc before (l ∷ []) (m ∷ lines)) (ends_with_all labels (place_after from l) (before ++ l ∷ []) (m ∷ lines) (not_finished (place_after from l) leads.1) leads.1 fit.1)
   where
-    not_finished : (place : Place) → Leads place (m ∷ lines) Finished → place ≢ Finished
+    not_finished : (place : Place) → LinesLead place (m ∷ lines) Finished → place ≢ Finished
     not_finished place leads at = let never : slice_get (kinds_at Finished) leads.0.place ≡ Some (kind_of m) = subst (λ p. slice_get (kinds_at p) leads.0.place ≡ Some (kind_of m)) at leads.0.is_there in cc
 
 few_runs : (labels : Labels) (before lines : List ReportLine) → FitBehind labels before lines → runs_begun before ≤ length labels.trains → runs_begun (before ++ lines) ≤ length labels.trains
 few_runs labels before [] fit few = subst (λ ls. runs_begun ls ≤ length labels.trains) (sym (append-nil before)) few
 few_runs labels before (l ∷ lines) fit few = subst (λ ls. runs_begun ls ≤ length labels.trains) (append_assoc before (l ∷ []) lines) (few_runs labels (before ++ l ∷ []) lines fit.1 (by_line l fit.0))
   where
-    by_line : (l : ReportLine) → Fits labels before l → runs_begun (before ++ l ∷ []) ≤ length labels.trains
+    by_line : (l : ReportLine) → LineFits labels before l → runs_begun (before ++ l ∷ []) ≤ length labels.trains
     by_line (run train start) fits = omega (arith, runs_begun-append before (run train start ∷ []), (at_place labels.trains (runs_begun before) train fits).0)
     by_line header fits = omega (arith, runs_begun-append before (header ∷ []))
     by_line verdict_done fits = omega (arith, runs_begun-append before (verdict_done ∷ []))
@@ -182,7 +182,7 @@ few_runs labels before (l ∷ lines) fit few = subst (λ ls. runs_begun ls ≤ l
     by_line end_line fits = omega (arith, runs_begun-append before (end_line ∷ []))
 
 -- a design has one run for each train
-pub one_run_each : (labels : Labels) (bytes : List ℕ) (parts : DesignParts) → IsWhole labels bytes parts → parts.begun ≡ true → length parts.runs.items ≡ length labels.trains
+pub one_run_each : (labels : Labels) (bytes : List ℕ) (parts : DesignParts) → IsTakenWhole labels bytes parts → parts.begun ≡ true → length parts.runs.items ≡ length labels.trains
 one_run_each labels bytes parts whole begun =
     let all = ends_with_all labels Start [] whole.report.lines (λ at. cc) whole.report.leads whole.taken.fit (sym whole.taken.begun ∙ begun) in
     let few = few_runs labels [] whole.report.lines whole.taken.fit (omega arith) in
@@ -203,7 +203,7 @@ length-same : {X Y : Type 0} (f : X → Y) (xs : List X) → length (map f xs) �
 length-same f [] = refl
 length-same f (x ∷ xs) = omega (arith, length-same f xs)
 
-pub few_borders : (labels : Labels) (bytes : List ℕ) (parts : DesignParts) → IsWhole labels bytes parts → length parts.borders.items ≤ length bytes
+pub few_borders : (labels : Labels) (bytes : List ℕ) (parts : DesignParts) → IsTakenWhole labels bytes parts → length parts.borders.items ≤ length bytes
 few_borders labels bytes parts whole = omega (arith, length-same (place_named labels) parts.borders.items, ap length whole.taken.borders_are, borders_within whole.report.lines, whole.few)
 
 short_run : (labels : Labels) (train : ℕ) (rs : List TrainRun) → All (λ r. length r.sweeps ≤ length (lines_of_runs labels train rs)) rs
@@ -213,7 +213,7 @@ short_run labels train (r ∷ rs) =
     (omega (arith, length-append (lines_of_run labels train r) (lines_of_runs labels (train + 1) rs), length-same (sweep_line labels) r.sweeps))
     (λ k d within. omega (arith, short_run labels (train + 1) rs k d within, length-append (lines_of_run labels train r) (lines_of_runs labels (train + 1) rs)))
 
-pub short_runs : (labels : Labels) (bytes : List ℕ) (parts : DesignParts) → IsWhole labels bytes parts → All (λ r. length r.sweeps ≤ length bytes) parts.runs.items
+pub short_runs : (labels : Labels) (bytes : List ℕ) (parts : DesignParts) → IsTakenWhole labels bytes parts → All (λ r. length r.sweeps ≤ length bytes) parts.runs.items
 short_runs labels bytes parts whole = λ k d within.
     omega (arith, short_run labels 0 parts.runs.items k d within, ap length whole.taken.runs_are, runs_within whole.report.lines, whole.few)
 
@@ -230,18 +230,18 @@ rises (x ∷ y ∷ bs) (suc (suc place)) item rising is zero b at got = absurd (
 rises (x ∷ y ∷ bs) (suc (suc place)) item rising is (suc before) b at got = rises (y ∷ bs) (suc place) item rising.1 is before b (omega arith) got
 
 -- the borders are candidates of the instance, and rise
-pub is_border_set : (p : InstanceParts) (labels : Labels) (bytes : List ℕ) (parts : DesignParts) → AreLabelsOf p labels → IsWhole labels bytes parts → IsBorderSet p parts.borders.items
+pub is_border_set : (p : InstanceParts) (labels : Labels) (bytes : List ℕ) (parts : DesignParts) → AreLabelsOf p labels → IsTakenWhole labels bytes parts → IsBorderSet p parts.borders.items
 is_border_set p labels bytes parts labelled whole = record {
   rising = record { at_each = λ place item is. rises parts.borders.items place item whole.taken.rising is };
-  in_range = record { at_each = λ place item is. omega (arith, all_at (IsPlace labels) parts.borders.items place item whole.taken.places is, labelled.places) };
+  in_range = record { at_each = λ place item is. omega (arith, all_at (IsPlaceNumber labels) parts.borders.items place item whole.taken.places is, labelled.places) };
 }
 
-pub states_design : (labels : Labels) (bytes : List ℕ) (parts : DesignParts) → IsWhole labels bytes parts → parts.begun ≡ true → (borders : List CandidateId) (plan : Plan) → borders ≡ parts.borders.items → plan.runs ≡ parts.runs.items → StatesDesign labels bytes borders plan
+pub states_design : (labels : Labels) (bytes : List ℕ) (parts : DesignParts) → IsTakenWhole labels bytes parts → parts.begun ≡ true → (borders : List CandidateId) (plan : Plan) → borders ≡ parts.borders.items → plan.runs ≡ parts.runs.items → StatesDesign labels bytes borders plan
 states_design labels bytes parts whole begun borders plan same_borders same_runs = record {
   report = whole.report;
   begun = sym whole.taken.begun ∙ begun;
   fit = whole.taken.fit;
-  places = subst (All (IsPlace labels)) (sym same_borders) whole.taken.places;
+  places = subst (All (IsPlaceNumber labels)) (sym same_borders) whole.taken.places;
   borders_are = ap (map (place_named labels)) same_borders ∙ whole.taken.borders_are;
   cells = subst (All (HasCellsOfRun labels)) (sym same_runs) whole.taken.cells;
   runs_are = ap (lines_of_runs labels 0) same_runs ∙ whole.taken.runs_are;

@@ -8,10 +8,10 @@ use Rattle.cell_net.specs.declared.plans.Sweep.{Sweep}
 use Rattle.cell_net.specs.declared.plans.TrainRun.{TrainRun}
 use Rattle.vss_report.specs.DesignFaults.{HasCells, HasCellsOfRun}
 use Rattle.vss_report.specs.Designs.{sweep_line, lines_of_run, lines_of_runs, has_design, borders_in, runs_in, runs_begun}
-use Rattle.vss_report.specs.Fits.{Fits, FitBehind}
+use Rattle.vss_report.specs.Fits.{LineFits, FitBehind}
 use Rattle.vss_report.specs.Lines.{ReportLine, count, border, run, sweep}
 use Rattle.vss_report.specs.Names.{train_name}
-use Rattle.vss_report.specs.Taken.{IsFrom, AreRising, AddsSweep}
+use Rattle.vss_report.specs.Taken.{IsOneAboveLast, AreRising, AddsSweep}
 
 -- a line that tells nothing of a design
 abbrev pub IsPlain : ReportLine → Type 0
@@ -48,10 +48,10 @@ has_design-count (count m ∷ lines) n = refl
 has_design-count (x ∷ lines) n = has_design-count lines n
 
 -- one line more fits behind lines that fit
-pub fit_push : (labels : Labels) (before lines : List ReportLine) (l : ReportLine) → FitBehind labels before lines → Fits labels (before ++ lines) l → FitBehind labels before (lines ++ l ∷ [])
-fit_push labels before [] l fit fits = (subst (λ ls. Fits labels ls l) (append-nil before) fits, tt)
+pub fit_push : (labels : Labels) (before lines : List ReportLine) (l : ReportLine) → FitBehind labels before lines → LineFits labels (before ++ lines) l → FitBehind labels before (lines ++ l ∷ [])
+fit_push labels before [] l fit fits = (subst (λ ls. LineFits labels ls l) (append-nil before) fits, tt)
 fit_push labels before (x ∷ lines) l fit fits =
-    (fit.0, fit_push labels (before ++ x ∷ []) lines l fit.1 (subst (λ ls. Fits labels ls l) (sym (append_assoc before (x ∷ []) lines)) fits))
+    (fit.0, fit_push labels (before ++ x ∷ []) lines l fit.1 (subst (λ ls. LineFits labels ls l) (sym (append_assoc before (x ∷ []) lines)) fits))
 
 pub lines_of_runs-push : (labels : Labels) (train : ℕ) (rs : List TrainRun) (r : TrainRun) → lines_of_runs labels train (rs ++ r ∷ []) ≡ lines_of_runs labels train rs ++ lines_of_run labels (train + length rs) r
 lines_of_runs-push labels train [] r =
@@ -97,7 +97,7 @@ pub record EndsWith (borders : List CandidateId) (from : ℕ) : Type 0 where
   pub is : borders ≡ earlier ++ last ∷ []
   pub above : from ≡ last.0 + 1
 
-pub ends_with : (borders : List CandidateId) (from : ℕ) → IsFrom borders from → 0 < from → EndsWith borders from
+pub ends_with : (borders : List CandidateId) (from : ℕ) → IsOneAboveLast borders from → 0 < from → EndsWith borders from
 ends_with [] from is some = absurd (omega arith)
 ends_with (b ∷ []) from is some = record { earlier = []; last = b; is = refl; above = is }
 ends_with (b ∷ c ∷ bs) from is some =
@@ -105,7 +105,7 @@ ends_with (b ∷ c ∷ bs) from is some =
     record { earlier = b ∷ end.earlier; last = end.last; is = ap (λ xs. b ∷ xs) end.is; above = end.above }
 
 -- what names the last border is below that number
-pub below_from : {N : Type 0} (name : CandidateId → N) (borders : List CandidateId) (from : ℕ) (earlier : List N) (last : N) → IsFrom borders from → map name borders ≡ earlier ++ last ∷ []
+pub below_from : {N : Type 0} (name : CandidateId → N) (borders : List CandidateId) (from : ℕ) (earlier : List N) (last : N) → IsOneAboveLast borders from → map name borders ≡ earlier ++ last ∷ []
     → (b : CandidateId) × (name b ≡ last) × (from ≡ b.0 + 1) × ((P : CandidateId → Type 0) → All P borders → P b)
 below_from name [] from [] last is same = absurd (omega (arith, ap length same))
 below_from name [] from (x ∷ earlier) last is same = absurd (omega (arith, ap length same))
@@ -117,12 +117,12 @@ below_from name (b ∷ c ∷ bs) from (x ∷ earlier) last is same =
     let more = below_from name (c ∷ bs) from earlier last is inner in
     (more.0, more.1, more.2, λ P all. more.3 P (All-tail P b (c ∷ bs) all))
 
-pub from_push : (borders : List CandidateId) (b : CandidateId) → IsFrom (borders ++ b ∷ []) (b.0 + 1)
+pub from_push : (borders : List CandidateId) (b : CandidateId) → IsOneAboveLast (borders ++ b ∷ []) (b.0 + 1)
 from_push [] b = refl
 from_push (x ∷ []) b = refl
 from_push (x ∷ y ∷ bs) b = from_push (y ∷ bs) b
 
-pub rising_push : (borders : List CandidateId) (b : CandidateId) (from : ℕ) → AreRising borders → IsFrom borders from → from ≤ b.0 → AreRising (borders ++ b ∷ [])
+pub rising_push : (borders : List CandidateId) (b : CandidateId) (from : ℕ) → AreRising borders → IsOneAboveLast borders from → from ≤ b.0 → AreRising (borders ++ b ∷ [])
 rising_push [] b from rising is above = tt
 rising_push (x ∷ []) b from rising is above = (omega arith, tt)
 rising_push (x ∷ y ∷ bs) b from rising is above = (rising.0, rising_push (y ∷ bs) b from rising.1 is above)

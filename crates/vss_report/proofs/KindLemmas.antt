@@ -17,7 +17,7 @@ use Rattle.vss_text.specs.Reading.{EndsWithin, NeverBegins, Misses, MissesText, 
 use Rattle.vss_text.specs.declared.miss.Miss.{Miss}
 use Rattle.vss_text.proofs.ReadingLaws.{misses_first, misses_second, misses_named, misses_either}
 use Rattle.vss_report.specs.Lines.{ReportLine, cut, joint, header, verdict_done, verdict_impossible, verdict_spent, conflicts, best_none, count, border, run, sweep, smaller_none, refutes, step, end_line, kind_of, spaced, full_text}
-use Rattle.vss_report.specs.Readings.{IsOfKind, IsFound, named, behind, AreCells, cells_line, HasCells}
+use Rattle.vss_report.specs.Readings.{IsOfKind, IsFound, named, behind, AreSweepCells, cells_line, HasCells}
 use Rattle.vss_report.specs.declared.kind.Kind.{Kind}
 use Rattle.vss_report.specs.declared.kind.Kind.TheVariants as kind
 use Rattle.vss_report.specs.declared.read_line.ReadLine.TheVariants as read
@@ -178,12 +178,12 @@ run_missed text miss missed =
     (λ x fits. (run x.0 x.1, record { spelled = (fits.0, fits.1); kind_is = refl }, ap (λ back. codes "run " ++ back) (named_text x.0 (decimal x.1)))) runs_are missed
 
 -- sweeps
-sweeps_are : AllAre AreCells (behind (codes "sweep") cells_line) kind.Sweep
+sweeps_are : AllAre AreSweepCells (behind (codes "sweep") cells_line) kind.Sweep
 sweeps_are (sweep cells) fits = (cells, fits.spelled, refl)
 sweeps_are z fits = absurd (let e : kind_of z ≡ kind.Sweep = fits.kind_is in cc)
 
-pub sweep_missed : (text : List ℕ) (miss : Miss) → Misses AreCells (behind (codes "sweep") cells_line) text miss → Misses (IsOfKind kind.Sweep) full_text text miss
-sweep_missed text miss missed = missed_as AreCells (behind (codes "sweep") cells_line) kind.Sweep text miss (λ cells fits. (sweep cells, record { spelled = fits; kind_is = refl }, refl)) sweeps_are missed
+pub sweep_missed : (text : List ℕ) (miss : Miss) → Misses AreSweepCells (behind (codes "sweep") cells_line) text miss → Misses (IsOfKind kind.Sweep) full_text text miss
+sweep_missed text miss missed = missed_as AreSweepCells (behind (codes "sweep") cells_line) kind.Sweep text miss (λ cells fits. (sweep cells, record { spelled = fits; kind_is = refl }, refl)) sweeps_are missed
 
 -- the first lines of refutations
 bounds_are : (z : ReportLine) → IsOfKind kind.Refutes z → IsLine Always (word (codes "refutes given\n")) z ⊎ IsLine IsShort (behind (codes "refutes ") (ended 10)) z

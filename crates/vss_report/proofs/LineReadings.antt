@@ -17,7 +17,7 @@ use Rattle.vss_names.specs.Names.{IsName}
 use Rattle.vss_text.specs.Reading.{IsReadOnce}
 use Rattle.vss_text.proofs.NumberLaws.{number_one_reading}
 use Rattle.vss_text.proofs.LineLaws.{word_same}
-use Rattle.vss_report.specs.Lines.{ReportLine, PlaceName, CellName, cut, joint, header, verdict_done, verdict_impossible, verdict_spent, conflicts, best_none, count, border, run, sweep, smaller_none, refutes, step, end_line, kind_of, sign, cell_text, spaced, place_text, bound_text, line_text, full_text, text_of, IsSpelledPlace, IsSpelledCell, IsSpelledBound, IsSpelled}
+use Rattle.vss_report.specs.Lines.{ReportLine, PlaceName, CellName, cut, joint, header, verdict_done, verdict_impossible, verdict_spent, conflicts, best_none, count, border, run, sweep, smaller_none, refutes, step, end_line, kind_of, sign, cell_text, spaced, place_text, bound_text, line_text, full_text, text_of_lines, IsSpelledPlace, IsSpelledCell, IsSpelledBound, IsSpelled}
 use Rattle.vss_report.proofs.LineTexts.{same_kind, line_plain, name_lacks}
 
 sign_byte : End → ℕ
@@ -126,15 +126,15 @@ line_read_once = λ one other rest rest' fits fits' same.
 pub record GoesOn (done lines : List ReportLine) (left : List ℕ) : Type 0 where
   pub later : List ReportLine
   pub is_more : lines ≡ done ++ later
-  pub is_left : left ≡ text_of later
+  pub is_left : left ≡ text_of_lines later
   pub spelled : All IsSpelled later
 
-pub goes_on : (done lines : List ReportLine) (left : List ℕ) → All IsSpelled done → All IsSpelled lines → text_of done ++ left ≡ text_of lines → GoesOn done lines left
+pub goes_on : (done lines : List ReportLine) (left : List ℕ) → All IsSpelled done → All IsSpelled lines → text_of_lines done ++ left ≡ text_of_lines lines → GoesOn done lines left
 unfolding IsReadOnce
 goes_on [] lines left fits fits' same = record { later = lines; is_more = refl; is_left = same; spelled = fits' }
-goes_on (l ∷ done) [] left fits fits' same = absurd (omega (arith, ap length same, length-append (full_text l ++ text_of done) left, length-append (full_text l) (text_of done), length-append (line_text l) (10 ∷ [])))
+goes_on (l ∷ done) [] left fits fits' same = absurd (omega (arith, ap length same, length-append (full_text l ++ text_of_lines done) left, length-append (full_text l) (text_of_lines done), length-append (line_text l) (10 ∷ [])))
 goes_on (l ∷ done) (l' ∷ lines) left fits fits' same =
-    let first = line_read_once l l' (text_of done ++ left) (text_of lines) (All-head IsSpelled l done fits) (All-head IsSpelled l' lines fits') (sym (append_assoc (full_text l) (text_of done) left) ∙ same) in
+    let first = line_read_once l l' (text_of_lines done ++ left) (text_of_lines lines) (All-head IsSpelled l done fits) (All-head IsSpelled l' lines fits') (sym (append_assoc (full_text l) (text_of_lines done) left) ∙ same) in
     let more = goes_on done lines left (All-tail IsSpelled l done fits) (All-tail IsSpelled l' lines fits') first.1 in
     let same_first : l ≡ l' = first.0 in
     let same_more : lines ≡ done ++ more.later = more.is_more in

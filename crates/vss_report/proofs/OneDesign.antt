@@ -10,12 +10,12 @@ use Rattle.cell_net.specs.declared.plans.Plan.{Plan}
 use Rattle.cell_net.specs.declared.plans.Sweep.{Sweep}
 use Rattle.cell_net.specs.declared.plans.TrainRun.{TrainRun}
 use Rattle.vss_text.specs.Reading.{IsReadOnce}
-use Rattle.vss_report.specs.DesignFaults.{IsPlace, HasCells, HasCellsOfRun, StatesDesign, FaultyAt, GoesWrongFirst, IsDesignFault, HasOneDesignReading}
+use Rattle.vss_report.specs.DesignFaults.{IsPlaceNumber, HasCells, HasCellsOfRun, StatesDesign, FaultyAt, GoesWrongFirst, IsDesignFault, HasOneDesignReading}
 use Rattle.vss_report.specs.Designs.{sweep_line, lines_of_runs, has_design, borders_in, runs_in, runs_begun}
-use Rattle.vss_report.specs.Fits.{Fits, FitBehind, AllFit, IsOutOfOrder, NamesUnknown}
-use Rattle.vss_report.specs.Lines.{ReportLine, CellName, border, run, sweep, smaller_none, refutes, end_line, kind_of, line_text, full_text, text_of, IsSpelled}
+use Rattle.vss_report.specs.Fits.{LineFits, FitBehind, LinesFit, IsOutOfOrder, NamesUnknown}
+use Rattle.vss_report.specs.Lines.{ReportLine, CellName, border, run, sweep, smaller_none, refutes, end_line, kind_of, line_text, full_text, text_of_lines, IsSpelled}
 use Rattle.vss_report.specs.Names.{train_name, cell_named, place_named}
-use Rattle.vss_report.specs.Places.{kinds_at, IsAmong, MayStand, Leads, Ends}
+use Rattle.vss_report.specs.Places.{kinds_at, IsAmong, MayStand, LinesLead, EndsReport}
 use Rattle.vss_report.specs.declared.fault.ReportFault.{ReportFault}
 use Rattle.vss_report.specs.declared.fault.ReportFault.TheVariants.{BadLine, UnknownName, NoPart, Memory}
 use Rattle.vss_report.specs.declared.place.Place.{Place}
@@ -29,19 +29,19 @@ use Rattle.vss_report.proofs.OneFault.{no_bad_line, one_bad_line}
 -- two readings of the lines of one text: the same, or the one goes on behind the other
 data Compared (lines other : List ReportLine) (left left' : List ℕ) : Type 0 where
   same : lines ≡ other → left ≡ left' → Compared lines other left left'
-  longer : (l : ReportLine) (more : List ReportLine) → lines ≡ other ++ (l ∷ more) → left' ≡ full_text l ++ (text_of more ++ left) → IsSpelled l → Compared lines other left left'
-  shorter : (l : ReportLine) (more : List ReportLine) → other ≡ lines ++ (l ∷ more) → left ≡ full_text l ++ (text_of more ++ left') → IsSpelled l → Compared lines other left left'
+  longer : (l : ReportLine) (more : List ReportLine) → lines ≡ other ++ (l ∷ more) → left' ≡ full_text l ++ (text_of_lines more ++ left) → IsSpelled l → Compared lines other left left'
+  shorter : (l : ReportLine) (more : List ReportLine) → other ≡ lines ++ (l ∷ more) → left ≡ full_text l ++ (text_of_lines more ++ left') → IsSpelled l → Compared lines other left left'
 
-behind_first : (l : ReportLine) (lines : List ReportLine) (left : List ℕ) → text_of (l ∷ lines) ++ left ≡ full_text l ++ (text_of lines ++ left)
-behind_first l lines left = append_assoc (full_text l) (text_of lines) left
+behind_first : (l : ReportLine) (lines : List ReportLine) (left : List ℕ) → text_of_lines (l ∷ lines) ++ left ≡ full_text l ++ (text_of_lines lines ++ left)
+behind_first l lines left = append_assoc (full_text l) (text_of_lines lines) left
 
-compare : (lines other : List ReportLine) (left left' : List ℕ) → All IsSpelled lines → All IsSpelled other → text_of lines ++ left ≡ text_of other ++ left' → Compared lines other left left'
+compare : (lines other : List ReportLine) (left left' : List ℕ) → All IsSpelled lines → All IsSpelled other → text_of_lines lines ++ left ≡ text_of_lines other ++ left' → Compared lines other left left'
 unfolding IsReadOnce
 compare [] [] left left' fits fits' text = same refl text
 compare (l ∷ more) [] left left' fits fits' text = longer l more refl (sym text ∙ behind_first l more left) (All-head IsSpelled l more fits)
 compare [] (l ∷ more) left left' fits fits' text = shorter l more refl (text ∙ behind_first l more left') (All-head IsSpelled l more fits')
 compare (l ∷ lines) (m ∷ other) left left' fits fits' text =
-    let first = line_read_once l m (text_of lines ++ left) (text_of other ++ left') (All-head IsSpelled l lines fits) (All-head IsSpelled m other fits') (sym (behind_first l lines left) ∙ (text ∙ behind_first m other left')) in
+    let first = line_read_once l m (text_of_lines lines ++ left) (text_of_lines other ++ left') (All-head IsSpelled l lines fits) (All-head IsSpelled m other fits') (sym (behind_first l lines left) ∙ (text ∙ behind_first m other left')) in
     on first.0 (compare lines other left left' (All-tail IsSpelled l lines fits) (All-tail IsSpelled m other fits') first.1)
   where
     on : l ≡ m → Compared lines other left left' → Compared (l ∷ lines) (m ∷ other) left left'
@@ -53,21 +53,21 @@ compare (l ∷ lines) (m ∷ other) left left' fits fits' text =
 some_left : (l : ReportLine) (rest : List ℕ) → [] ≢ full_text l ++ rest
 some_left l rest is = omega (arith, ap length is, length-append (line_text l ++ 10 ∷ []) rest, length-append (line_text l) (10 ∷ []))
 
-fit_at : (labels : Labels) (before lines more : List ReportLine) (l : ReportLine) → FitBehind labels before (lines ++ (l ∷ more)) → Fits labels (before ++ lines) l
-fit_at labels before [] more l fit = subst (λ ls. Fits labels ls l) (sym (append-nil before)) fit.0
-fit_at labels before (x ∷ lines) more l fit = subst (λ ls. Fits labels ls l) (append_assoc before (x ∷ []) lines) (fit_at labels (before ++ x ∷ []) lines more l fit.1)
+fit_at : (labels : Labels) (before lines more : List ReportLine) (l : ReportLine) → FitBehind labels before (lines ++ (l ∷ more)) → LineFits labels (before ++ lines) l
+fit_at labels before [] more l fit = subst (λ ls. LineFits labels ls l) (sym (append-nil before)) fit.0
+fit_at labels before (x ∷ lines) more l fit = subst (λ ls. LineFits labels ls l) (append_assoc before (x ∷ []) lines) (fit_at labels (before ++ x ∷ []) lines more l fit.1)
 
-may_at : (from at to : Place) (lines more : List ReportLine) (l : ReportLine) → Leads from lines at → Leads from (lines ++ (l ∷ more)) to → IsAmong (kinds_at at) (kind_of l)
+may_at : (from at to : Place) (lines more : List ReportLine) (l : ReportLine) → LinesLead from lines at → LinesLead from (lines ++ (l ∷ more)) to → IsAmong (kinds_at at) (kind_of l)
 may_at from at to lines more l first all = (leads_on from at to lines (l ∷ more) first all).0
 
-same_place : (from at to : Place) (lines other : List ReportLine) → lines ≡ other → Leads from lines at → Leads from other to → at ≡ to
-same_place from at to lines other is first second = leads_on from at to lines [] first (subst (λ ls. Leads from ls to) (sym is ∙ sym (append-nil lines)) second)
+same_place : (from at to : Place) (lines other : List ReportLine) → lines ≡ other → LinesLead from lines at → LinesLead from other to → at ≡ to
+same_place from at to lines other is first second = leads_on from at to lines [] first (subst (λ ls. LinesLead from ls to) (sym is ∙ sym (append-nil lines)) second)
 
 contains_at : (items : List (List ℕ)) (k : ℕ) (item : List ℕ) → slice_get items k ≡ Some item → Contains items item
 contains_at items k item is = let at = at_place items k item is in (k, at.0, at.1 item)
 
 -- a line that fits isn't out of order, and names nothing unknown
-fits_in_order : (labels : Labels) (before : List ReportLine) (l : ReportLine) → AreLabels labels → Fits labels before l → IsOutOfOrder labels before l → ⊥
+fits_in_order : (labels : Labels) (before : List ReportLine) (l : ReportLine) → AreLabels labels → LineFits labels before l → IsOutOfOrder labels before l → ⊥
 fits_in_order labels before (border name) good fits wrong =
     let one : fits.candidate ≡ wrong.candidate = place_same labels name fits.candidate wrong.candidate good fits.is_place wrong.is_place in
     omega (arith, fits.above wrong.last wrong.is_last, wrong.low, ap (λ (c : CandidateId). c.0) one)
@@ -77,7 +77,7 @@ fits_in_order labels before (refutes bound) good fits wrong = wrong fits
 fits_in_order labels before end_line good fits wrong = wrong fits
 fits_in_order labels before l good fits wrong = absurd wrong
 
-fits_known : (labels : Labels) (before : List ReportLine) (l : ReportLine) → Fits labels before l → NamesUnknown labels before l → ⊥
+fits_known : (labels : Labels) (before : List ReportLine) (l : ReportLine) → LineFits labels before l → NamesUnknown labels before l → ⊥
 fits_known labels before (border name) fits unknown = unknown fits.candidate fits.is_place
 fits_known labels before (run train start) fits unknown = unknown.unknown (contains_at labels.trains (runs_begun before) train fits)
 fits_known labels before (sweep cells) fits unknown = unknown fits
@@ -107,11 +107,11 @@ same_line : (l m : ReportLine) (rest rest' : List ℕ) → IsSpelled l → IsSpe
 unfolding IsReadOnce
 same_line l m rest rest' fits fits' text = (line_read_once l m rest rest' fits fits' text).0
 
-faults_meet : (F G : List ReportLine → ReportLine → Type 0) (labels : Labels) (bytes : List ℕ) (n m : ℕ) → ((before : List ReportLine) (l : ReportLine) → Fits labels before l → F before l → ⊥) → ((before : List ReportLine) (l : ReportLine) → Fits labels before l → G before l → ⊥)
+faults_meet : (F G : List ReportLine → ReportLine → Type 0) (labels : Labels) (bytes : List ℕ) (n m : ℕ) → ((before : List ReportLine) (l : ReportLine) → LineFits labels before l → F before l → ⊥) → ((before : List ReportLine) (l : ReportLine) → LineFits labels before l → G before l → ⊥)
     → FaultyAt F labels bytes n → FaultyAt G labels bytes m → MeetAt F G n m
 faults_meet F G labels bytes n m fits_F fits_G one other =
     by_lines (compare one.before.lines other.before.lines one.before.left other.before.left one.before.spelled other.before.spelled
-    (one_text bytes (text_of one.before.lines ++ one.before.left) (text_of other.before.lines ++ other.before.left) one.before.begins other.before.begins))
+    (one_text bytes (text_of_lines one.before.lines ++ one.before.left) (text_of_lines other.before.lines ++ other.before.left) one.before.begins other.before.begins))
   where
     by_lines : Compared one.before.lines other.before.lines one.before.left other.before.left → MeetAt F G n m
     by_lines (same is rest) =
@@ -124,61 +124,61 @@ faults_meet F G labels bytes n m fits_F fits_G one other =
           same_number = omega (arith, one.counted, other.counted, ap length is);
         }
     by_lines (longer x more is rest spelled) =
-        let line_is : other.line ≡ x = same_line other.line x other.behind (text_of more ++ one.before.left) other.may_stand.spelled spelled (sym other.is_next ∙ rest) in
-        absurd (fits_G other.before.lines other.line (subst (Fits labels other.before.lines) (sym line_is) (fit_at labels [] other.before.lines more x (subst (AllFit labels) is one.before.fit))) other.fault)
+        let line_is : other.line ≡ x = same_line other.line x other.behind (text_of_lines more ++ one.before.left) other.may_stand.spelled spelled (sym other.is_next ∙ rest) in
+        absurd (fits_G other.before.lines other.line (subst (LineFits labels other.before.lines) (sym line_is) (fit_at labels [] other.before.lines more x (subst (LinesFit labels) is one.before.fit))) other.fault)
     by_lines (shorter x more is rest spelled) =
-        let line_is : one.line ≡ x = same_line one.line x one.behind (text_of more ++ other.before.left) one.may_stand.spelled spelled (sym one.is_next ∙ rest) in
-        absurd (fits_F one.before.lines one.line (subst (Fits labels one.before.lines) (sym line_is) (fit_at labels [] one.before.lines more x (subst (AllFit labels) is other.before.fit))) one.fault)
+        let line_is : one.line ≡ x = same_line one.line x one.behind (text_of_lines more ++ other.before.left) one.may_stand.spelled spelled (sym one.is_next ∙ rest) in
+        absurd (fits_F one.before.lines one.line (subst (LineFits labels one.before.lines) (sym line_is) (fit_at labels [] one.before.lines more x (subst (LinesFit labels) is other.before.fit))) one.fault)
 
 -- a text that goes wrong first has no line with a fault
-wrong_meets : (F : List ReportLine → ReportLine → Type 0) (labels : Labels) (bytes : List ℕ) (n m : ℕ) → ((before : List ReportLine) (l : ReportLine) → Fits labels before l → F before l → ⊥) → GoesWrongFirst labels bytes n → FaultyAt F labels bytes m → ⊥
+wrong_meets : (F : List ReportLine → ReportLine → Type 0) (labels : Labels) (bytes : List ℕ) (n m : ℕ) → ((before : List ReportLine) (l : ReportLine) → LineFits labels before l → F before l → ⊥) → GoesWrongFirst labels bytes n → FaultyAt F labels bytes m → ⊥
 wrong_meets F labels bytes n m fits_F one other =
     by_lines (compare one.before.lines other.before.lines one.before.left other.before.left one.before.spelled other.before.spelled
-    (one_text bytes (text_of one.before.lines ++ one.before.left) (text_of other.before.lines ++ other.before.left) one.before.begins other.before.begins))
+    (one_text bytes (text_of_lines one.before.lines ++ one.before.left) (text_of_lines other.before.lines ++ other.before.left) one.before.begins other.before.begins))
   where
     by_lines : Compared one.before.lines other.before.lines one.before.left other.before.left → ⊥
     by_lines (same is rest) =
         let at : one.before.at ≡ other.before.at = same_place Start one.before.at other.before.at one.before.lines other.before.lines is one.before.leads other.before.leads in
         one.all other.line other.behind (subst (λ p. MayStand p other.line) (sym at) other.may_stand) (rest ∙ other.is_next)
     by_lines (longer x more is rest spelled) =
-        let line_is : other.line ≡ x = same_line other.line x other.behind (text_of more ++ one.before.left) other.may_stand.spelled spelled (sym other.is_next ∙ rest) in
-        fits_F other.before.lines other.line (subst (Fits labels other.before.lines) (sym line_is) (fit_at labels [] other.before.lines more x (subst (AllFit labels) is one.before.fit))) other.fault
+        let line_is : other.line ≡ x = same_line other.line x other.behind (text_of_lines more ++ one.before.left) other.may_stand.spelled spelled (sym other.is_next ∙ rest) in
+        fits_F other.before.lines other.line (subst (LineFits labels other.before.lines) (sym line_is) (fit_at labels [] other.before.lines more x (subst (LinesFit labels) is one.before.fit))) other.fault
     by_lines (shorter x more is rest spelled) =
-        one.all x (text_of more ++ other.before.left)
-        (record { spelled = spelled; among = may_at Start one.before.at other.before.at one.before.lines more x one.before.leads (subst (λ ls. Leads Start ls other.before.at) is other.before.leads) }) rest
+        one.all x (text_of_lines more ++ other.before.left)
+        (record { spelled = spelled; among = may_at Start one.before.at other.before.at one.before.lines more x one.before.leads (subst (λ ls. LinesLead Start ls other.before.at) is other.before.leads) }) rest
 
 -- a report whose lines fit has no line with a fault
-report_meets : (F : List ReportLine → ReportLine → Type 0) (labels : Labels) (bytes : List ℕ) (m : ℕ) → ((before : List ReportLine) (l : ReportLine) → Fits labels before l → F before l → ⊥) → (report : Ends Start bytes) → AllFit labels report.lines → FaultyAt F labels bytes m → ⊥
+report_meets : (F : List ReportLine → ReportLine → Type 0) (labels : Labels) (bytes : List ℕ) (m : ℕ) → ((before : List ReportLine) (l : ReportLine) → LineFits labels before l → F before l → ⊥) → (report : EndsReport Start bytes) → LinesFit labels report.lines → FaultyAt F labels bytes m → ⊥
 report_meets F labels bytes m fits_F report fit other =
     by_lines (compare report.lines other.before.lines [] other.before.left report.spelled other.before.spelled
-    (one_text bytes (text_of report.lines ++ []) (text_of other.before.lines ++ other.before.left) (report.text ∙ sym (append-nil (text_of report.lines))) other.before.begins))
+    (one_text bytes (text_of_lines report.lines ++ []) (text_of_lines other.before.lines ++ other.before.left) (report.text ∙ sym (append-nil (text_of_lines report.lines))) other.before.begins))
   where
     by_lines : Compared report.lines other.before.lines [] other.before.left → ⊥
     by_lines (same is rest) = some_left other.line other.behind (rest ∙ other.is_next)
     by_lines (longer x more is rest spelled) =
-        let line_is : other.line ≡ x = same_line other.line x other.behind (text_of more ++ []) other.may_stand.spelled spelled (sym other.is_next ∙ rest) in
-        fits_F other.before.lines other.line (subst (Fits labels other.before.lines) (sym line_is) (fit_at labels [] other.before.lines more x (subst (AllFit labels) is fit))) other.fault
-    by_lines (shorter x more is rest spelled) = some_left x (text_of more ++ other.before.left) rest
+        let line_is : other.line ≡ x = same_line other.line x other.behind (text_of_lines more ++ []) other.may_stand.spelled spelled (sym other.is_next ∙ rest) in
+        fits_F other.before.lines other.line (subst (LineFits labels other.before.lines) (sym line_is) (fit_at labels [] other.before.lines more x (subst (LinesFit labels) is fit))) other.fault
+    by_lines (shorter x more is rest spelled) = some_left x (text_of_lines more ++ other.before.left) rest
 
 -- two readings of a report have the same lines
-pub one_report : (bytes : List ℕ) → (one other : Ends Start bytes) → one.lines ≡ other.lines
+pub one_report : (bytes : List ℕ) → (one other : EndsReport Start bytes) → one.lines ≡ other.lines
 one_report bytes one other =
-    by_lines (compare one.lines other.lines [] [] one.spelled other.spelled (one_text bytes (text_of one.lines ++ []) (text_of other.lines ++ []) (one.text ∙ sym (append-nil (text_of one.lines))) (other.text ∙ sym (append-nil (text_of other.lines)))))
+    by_lines (compare one.lines other.lines [] [] one.spelled other.spelled (one_text bytes (text_of_lines one.lines ++ []) (text_of_lines other.lines ++ []) (one.text ∙ sym (append-nil (text_of_lines one.lines))) (other.text ∙ sym (append-nil (text_of_lines other.lines)))))
   where
     by_lines : Compared one.lines other.lines [] [] → one.lines ≡ other.lines
     by_lines (same is rest) = is
-    by_lines (longer x more is rest spelled) = absurd (some_left x (text_of more ++ []) rest)
-    by_lines (shorter x more is rest spelled) = absurd (some_left x (text_of more ++ []) rest)
+    by_lines (longer x more is rest spelled) = absurd (some_left x (text_of_lines more ++ []) rest)
+    by_lines (shorter x more is rest spelled) = absurd (some_left x (text_of_lines more ++ []) rest)
 
-borders_once : (labels : Labels) (bs cs : List CandidateId) → AreLabels labels → All (IsPlace labels) bs → All (IsPlace labels) cs → map (place_named labels) bs ≡ map (place_named labels) cs → bs ≡ cs
+borders_once : (labels : Labels) (bs cs : List CandidateId) → AreLabels labels → All (IsPlaceNumber labels) bs → All (IsPlaceNumber labels) cs → map (place_named labels) bs ≡ map (place_named labels) cs → bs ≡ cs
 borders_once labels [] [] good fits fits' names = refl
 borders_once labels [] (c ∷ cs) good fits fits' names = absurd (omega (arith, ap length names))
 borders_once labels (b ∷ bs) [] good fits fits' names = absurd (omega (arith, ap length names))
 borders_once labels (b ∷ bs) (c ∷ cs) good fits fits' names =
     let first : place_named labels b ≡ place_named labels c = cc in
     let more : map (place_named labels) bs ≡ map (place_named labels) cs = cc in
-    let one : b ≡ c = place_same labels (place_named labels c) b c good (record { within = All-head (IsPlace labels) b bs fits; named = first }) (record { within = All-head (IsPlace labels) c cs fits'; named = refl }) in
-    ap (λ x. x ∷ bs) one ∙ ap (λ xs. c ∷ xs) (borders_once labels bs cs good (All-tail (IsPlace labels) b bs fits) (All-tail (IsPlace labels) c cs fits') more)
+    let one : b ≡ c = place_same labels (place_named labels c) b c good (record { within = All-head (IsPlaceNumber labels) b bs fits; named = first }) (record { within = All-head (IsPlaceNumber labels) c cs fits'; named = refl }) in
+    ap (λ x. x ∷ bs) one ∙ ap (λ xs. c ∷ xs) (borders_once labels bs cs good (All-tail (IsPlaceNumber labels) b bs fits) (All-tail (IsPlaceNumber labels) c cs fits') more)
 
 abbrev IsCell : Labels → DirCell → Type 0
 IsCell labels d = d.cell.0 < length labels.cells
@@ -242,7 +242,7 @@ one_design labels bytes borders others plan other good one also =
     (borders_once labels borders others good one.places also.places (one.borders_are ∙ (ap borders_in lines ∙ sym also.borders_are)), λ i. record { runs = runs i })
 
 -- a text that states a design, or states none, has no fault of a line
-stated_no_fault : (labels : Labels) (bytes : List ℕ) (fault : ReportFault) → AreLabels labels → (report : Ends Start bytes) → AllFit labels report.lines → fault ≢ NoPart → fault ≢ Memory → IsDesignFault labels bytes fault → ⊥
+stated_no_fault : (labels : Labels) (bytes : List ℕ) (fault : ReportFault) → AreLabels labels → (report : EndsReport Start bytes) → LinesFit labels report.lines → fault ≢ NoPart → fault ≢ Memory → IsDesignFault labels bytes fault → ⊥
 stated_no_fault labels bytes (BadLine n) good report fit other_part other_memory (inl wrong) = no_bad_line Start bytes n report wrong.wrong
 stated_no_fault labels bytes (BadLine n) good report fit other_part other_memory (inr fault) = report_meets (IsOutOfOrder labels) labels bytes n (λ before l. fits_in_order labels before l good) report fit fault
 stated_no_fault labels bytes (UnknownName n) good report fit other_part other_memory fault = report_meets (NamesUnknown labels) labels bytes n (fits_known labels) report fit fault

@@ -3,8 +3,8 @@ use Rattle.std.proofs.Common.{◌≡◌, ◌<◌, ◌≤◌, ◌+◌, ◌-◌, i
 use Rattle.std.proofs.lemmas.Bool.{cases_lt}
 use Rattle.vss_io.specs.Line.{flat}
 use Rattle.vss_text.specs.Lines.{lines_of}
-use Rattle.vss_report.specs.Faults.{up_to, GoesWrongAt, IsFirstWrong}
-use Rattle.vss_report.specs.Places.{Ends, CanEnd}
+use Rattle.vss_report.specs.Faults.{text_up_to, GoesWrongAt, IsFirstWrong}
+use Rattle.vss_report.specs.Places.{EndsReport, CanEnd}
 use Rattle.vss_report.specs.declared.place.Place.{Place}
 use Rattle.vss_report.proofs.FaultLemmas.{whole_text}
 
@@ -15,16 +15,16 @@ front lines (suc n) zero few = absurd (omega arith)
 front [] (suc n) (suc m) few = ([], refl)
 front (l ∷ lines) (suc n) (suc m) few = let more = front lines n m (omega arith) in (more.0, ap (λ t. l ++ t) more.1 ∙ sym (append_assoc l (flat (take n lines)) more.0))
 
-earlier : (from : Place) (text : List ℕ) (n m : ℕ) → n ≤ m → CanEnd from (up_to m text) → CanEnd from (up_to n text)
+earlier : (from : Place) (text : List ℕ) (n m : ℕ) → n ≤ m → CanEnd from (text_up_to m text) → CanEnd from (text_up_to n text)
 earlier from text n m few can =
     let more = front (lines_of text) n m few in
-    record { more = more.0 ++ can.more; ends = subst (Ends from) (ap (λ t. t ++ can.more) more.1 ∙ append_assoc (up_to n text) more.0 can.more) can.ends }
+    record { more = more.0 ++ can.more; ends = subst (EndsReport from) (ap (λ t. t ++ can.more) more.1 ∙ append_assoc (text_up_to n text) more.0 can.more) can.ends }
 
-pub no_bad_line : (from : Place) (text : List ℕ) (n : ℕ) → Ends from text → IsFirstWrong from text n → ⊥
+pub no_bad_line : (from : Place) (text : List ℕ) (n : ℕ) → EndsReport from text → IsFirstWrong from text n → ⊥
 no_bad_line from text n ends bad = by_cause bad.wrong
   where
     by_cause : GoesWrongAt from text n → ⊥
-    by_cause (inl within) = within.1 (earlier from text n (length (lines_of text)) within.0 (record { more = []; ends = subst (Ends from) (sym (whole_text text) ∙ sym (append-nil (up_to (length (lines_of text)) text))) ends }))
+    by_cause (inl within) = within.1 (earlier from text n (length (lines_of text)) within.0 (record { more = []; ends = subst (EndsReport from) (sym (whole_text text) ∙ sym (append-nil (text_up_to (length (lines_of text)) text))) ends }))
     by_cause (inr past) = past.1 ends
 
 later_bad : (from : Place) (text : List ℕ) (n m : ℕ) → n < m → IsFirstWrong from text n → IsFirstWrong from text m → ⊥

@@ -6,28 +6,28 @@ use Rattle.cell_net.specs.declared.cells.End.TheVariants.{Low}
 use Rattle.std.specs.Prelude.{IsTrue}
 use Rattle.vss_names.specs.Names.{IsName, is_name_byte}
 use Rattle.vss_report.specs.Lines.{ReportLine, joint, header, verdict_impossible, conflicts, best_none, count, border, sweep, refutes, end_line, kind_of, IsSpelledCell, IsSpelled}
-use Rattle.vss_report.specs.Places.{kinds_at, behind_runs, place_after, IsAmong, Leads}
+use Rattle.vss_report.specs.Places.{kinds_at, behind_runs, place_after, IsAmong, LinesLead}
 use Rattle.vss_report.specs.declared.kind.Kind.{Kind}
 use Rattle.vss_report.specs.declared.kind.Kind.TheVariants as kind
 use Rattle.vss_report.specs.declared.place.Place.{Place}
 use Rattle.vss_report.specs.declared.place.Place.TheVariants.{Start, Verdict, Conflicts, Best, Design, Borders, FirstSweep, Sweeps, Bound, Log, End, Finished}
 
 -- lines lead to one place alone
-pub leads_on : (from mid to : Place) (done later : List ReportLine) → Leads from done mid → Leads from (done ++ later) to → Leads mid later to
-leads_on from mid to [] later first all = subst (λ p. Leads p later to) first all
+pub leads_on : (from mid to : Place) (done later : List ReportLine) → LinesLead from done mid → LinesLead from (done ++ later) to → LinesLead mid later to
+leads_on from mid to [] later first all = subst (λ p. LinesLead p later to) first all
 leads_on from mid to (l ∷ done) later first all = leads_on (place_after from l) mid to done later first.1 all.1
 
-pub leads_then : (from mid to : Place) (done later : List ReportLine) → Leads from done mid → Leads mid later to → Leads from (done ++ later) to
-leads_then from mid to [] later first second = subst (λ p. Leads p later to) (sym first) second
+pub leads_then : (from mid to : Place) (done later : List ReportLine) → LinesLead from done mid → LinesLead mid later to → LinesLead from (done ++ later) to
+leads_then from mid to [] later first second = subst (λ p. LinesLead p later to) (sym first) second
 leads_then from mid to (l ∷ done) later first second = (first.0, leads_then (place_after from l) mid to done later first.1 second)
 
-pub leads_one : (from mid : Place) (done : List ReportLine) (l : ReportLine) → Leads from done mid → IsAmong (kinds_at mid) (kind_of l) → Leads from (done ++ l ∷ []) (place_after mid l)
+pub leads_one : (from mid : Place) (done : List ReportLine) (l : ReportLine) → LinesLead from done mid → IsAmong (kinds_at mid) (kind_of l) → LinesLead from (done ++ l ∷ []) (place_after mid l)
 leads_one from mid done l first may = leads_then from mid (place_after mid l) done (l ∷ []) first (may, refl)
 
 -- lines by which a report ends
 pub record Ending (from : Place) : Type 0 where
   pub lines : List ReportLine
-  pub leads : Leads from lines Finished
+  pub leads : LinesLead from lines Finished
   pub spelled : All IsSpelled lines
 
 among_first : (k : Kind) (ks : List Kind) → IsAmong (k ∷ ks) k

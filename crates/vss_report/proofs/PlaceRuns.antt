@@ -2,7 +2,7 @@
 use Rattle.std.proofs.Common.{◌≡◌, ◌<◌, ◌⊎◌, inl, inr, ℕ, zero, suc, Bool, true, false, List, [], ◌∷◌, Some, slice_get, sym, subst, arith}
 use Rattle.vss_report.specs.Designs.{runs_begun}
 use Rattle.vss_report.specs.Lines.{ReportLine, header, verdict_done, verdict_impossible, verdict_spent, conflicts, best_none, count, border, run, sweep, smaller_none, refutes, step, end_line, kind_of}
-use Rattle.vss_report.specs.Places.{kinds_at, behind_runs, place_after, IsAmong, Leads}
+use Rattle.vss_report.specs.Places.{kinds_at, behind_runs, place_after, IsAmong, LinesLead}
 use Rattle.vss_report.specs.declared.kind.Kind.TheVariants as kind
 use Rattle.vss_report.specs.declared.place.Place.{Place}
 use Rattle.vss_report.specs.declared.place.Place.TheVariants.{Start, Verdict, Conflicts, Best, Design, Borders, FirstSweep, Sweeps, Bound, Log, End, Finished}
@@ -75,7 +75,7 @@ first_begun : (l : ReportLine) (lines : List ReportLine) → 0 < runs_begun (l �
 first_begun (run train start) lines some = omega arith
 first_begun l lines some = absurd (omega (arith, some))
 
-in_run : (from at : Place) (lines : List ReportLine) → Leads from lines at → IsInRun at → IsInRun from ⊎ (0 < runs_begun lines)
+in_run : (from at : Place) (lines : List ReportLine) → LinesLead from lines at → IsInRun at → IsInRun from ⊎ (0 < runs_begun lines)
 in_run from at [] leads within = inl (subst IsInRun (sym leads) within)
 in_run from at (l ∷ lines) leads within = elim (in_run (place_after from l) at lines leads.1 within) [
   | inl first ↦ elim (step_in from l leads.0 first) [
@@ -85,7 +85,7 @@ in_run from at (l ∷ lines) leads within = elim (in_run (place_after from l) at
   | inr some ↦ inr (more_begun l lines some)
 ]
 
-pub run_before : (at : Place) (lines : List ReportLine) → Leads Start lines at → IsAmong (kinds_at at) kind.Sweep → 0 < runs_begun lines
+pub run_before : (at : Place) (lines : List ReportLine) → LinesLead Start lines at → IsAmong (kinds_at at) kind.Sweep → 0 < runs_begun lines
 run_before at lines leads among = elim (in_run Start at lines leads (at_sweep at among.place among.is_there)) [
   | inl never ↦ absurd never
   | inr some ↦ some

@@ -13,7 +13,7 @@ use Rattle.vss_report.specs.Designs.{sweep_line, lines_of_runs, has_design, bord
 use Rattle.vss_report.specs.Lines.{ReportLine, run, step, end_line}
 use Rattle.vss_report.specs.Names.{train_name, place_named}
 use Rattle.vss_report.specs.Outcomes.{border_line, lines_of_design, lines_of_smaller, lines_of_outcome, report_text}
-use Rattle.vss_report.specs.Places.{Ends}
+use Rattle.vss_report.specs.Places.{EndsReport}
 use Rattle.vss_report.specs.Written.{HasShortNames, IsReportSweep, IsReportRun, IsReportDesign, IsReportOutcome, HasDesign}
 use Rattle.vss_report.specs.declared.outcome.Smaller.{Smaller}
 use Rattle.vss_report.specs.declared.outcome.Smaller.TheVariants as smaller
@@ -24,7 +24,7 @@ use Rattle.vss_report.proofs.DesignLines.{borders_in-append, runs_in-append}
 use Rattle.vss_report.proofs.WrittenPlaces.{leads_outcome}
 use Rattle.vss_report.proofs.WrittenLines.{outcome_spelled, outcome_fits}
 
-abbrev pub the_report : (labels : Labels) (o : Outcome) → AreLabels labels → HasShortNames labels → IsReportOutcome labels o → Ends Start (report_text labels o)
+abbrev pub the_report : (labels : Labels) (o : Outcome) → AreLabels labels → HasShortNames labels → IsReportOutcome labels o → EndsReport Start (report_text labels o)
 the_report labels o good short fit = record { lines = lines_of_outcome labels o; leads = leads_outcome labels o fit; spelled = outcome_spelled labels o good short fit; text = refl }
 
 borders_told : (labels : Labels) (bs : List CandidateId) → borders_in (map (border_line labels) bs) ≡ map (place_named labels) bs

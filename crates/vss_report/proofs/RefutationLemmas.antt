@@ -13,11 +13,11 @@ use Rattle.derivation_log.specs.declared.step.Bound.{Bound}
 use Rattle.derivation_log.specs.declared.step.Refutation.{Refutation}
 use Rattle.vss_text.specs.Lines.{lines_of}
 use Rattle.vss_text.specs.Reading.{NeverBegins}
-use Rattle.vss_report.specs.Lines.{ReportLine, sweep, refutes, step, kind_of, line_text, full_text, text_of, IsSpelled}
-use Rattle.vss_report.specs.Places.{place_after, kinds_at, MayStand, Leads, Ends}
+use Rattle.vss_report.specs.Lines.{ReportLine, sweep, refutes, step, kind_of, line_text, full_text, text_of_lines, IsSpelled}
+use Rattle.vss_report.specs.Places.{place_after, kinds_at, MayStand, LinesLead, EndsReport}
 use Rattle.vss_report.specs.Faults.{IsWrongHere, IsBadLine}
-use Rattle.vss_report.specs.Readings.{IsFound, Says}
-use Rattle.vss_report.specs.Refutations.{steps_in, RefutesAt, States, StatesNone, ReachesStep}
+use Rattle.vss_report.specs.Readings.{IsFound, SaysLine}
+use Rattle.vss_report.specs.Refutations.{steps_of_lines, RefutesAt, StatesRefutation, StatesNone, ReachesStep}
 use Rattle.vss_report.specs.Gathered.{AreGathered, HasBound}
 use Rattle.vss_report.specs.declared.fault.ReportFault.{ReportFault}
 use Rattle.vss_report.specs.declared.fault.ReportFault.TheVariants.{BadLine}
@@ -48,8 +48,8 @@ IsReadTo-more bytes number place rest behind l before fits is = record {
   read = record {
     leads = leads_one Start place before.lines l before.read.leads fits.among;
     spelled = All-push IsSpelled before.lines l before.read.spelled fits.spelled;
-    so_far = before.read.so_far ∙ (ap (λ b. text_of before.lines ++ b) is
-        ∙ (sym (append_assoc (text_of before.lines) (full_text l) behind) ∙ ap (λ b. b ++ behind) (flat_map_more full_text [] before.lines l)));
+    so_far = before.read.so_far ∙ (ap (λ b. text_of_lines before.lines ++ b) is
+        ∙ (sym (append_assoc (text_of_lines before.lines) (full_text l) behind) ∙ ap (λ b. b ++ behind) (flat_map_more full_text [] before.lines l)));
   };
   counted = omega (arith, before.counted, length-append before.lines (l ∷ []));
   room = omega (arith, before.room, ap length is, length-append (full_text l) behind, length-append before.lines (l ∷ []), some_text l);
@@ -76,8 +76,8 @@ wrong_behind bytes number rest read some =
     nothing : (rest : List ℕ) → NeverBegins (MayStand Finished) full_text rest
     nothing rest l more after fits same = let never : slice_get (kinds_at Finished) fits.among.place ≡ Some (kind_of l) = fits.among.is_there in cc
 
-pub is_report : (bytes : List ℕ) (number : ℕ) (rest : List ℕ) → IsReadTo bytes number Finished rest → length rest ≡ 0 → Ends Start bytes
-is_report bytes number [] read none = record { lines = read.lines; leads = read.read.leads; spelled = read.read.spelled; text = read.read.so_far ∙ append-nil (text_of read.lines) }
+pub is_report : (bytes : List ℕ) (number : ℕ) (rest : List ℕ) → IsReadTo bytes number Finished rest → length rest ≡ 0 → EndsReport Start bytes
+is_report bytes number [] read none = record { lines = read.lines; leads = read.read.leads; spelled = read.read.spelled; text = read.read.so_far ∙ append-nil (text_of_lines read.lines) }
 is_report bytes number (b ∷ rest) read none = absurd (omega arith)
 
 -- a line that gives neither a step nor a bound
@@ -87,12 +87,12 @@ IsOther (refutes bound) = ⊥
 IsOther l = Unit {0}
 
 -- the steps of lines behind others
-pub steps_in-append : (lines more : List ReportLine) → steps_in (lines ++ more) ≡ steps_in lines ++ steps_in more
+pub steps_in-append : (lines more : List ReportLine) → steps_of_lines (lines ++ more) ≡ steps_of_lines lines ++ steps_of_lines more
 steps_in-append [] more = refl
 steps_in-append (step s ∷ lines) more = ap (λ steps. s ∷ steps) (steps_in-append lines more)
 steps_in-append (l ∷ lines) more = steps_in-append lines more
 
-steps_other : (l : ReportLine) → IsOther l → steps_in (l ∷ []) ≡ []
+steps_other : (l : ReportLine) → IsOther l → steps_of_lines (l ∷ []) ≡ []
 steps_other (step s) other = absurd other
 steps_other (refutes bound) other = absurd other
 steps_other l other = refl
@@ -136,7 +136,7 @@ is_step_other l s is bound same = let never : step s ≡ refutes bound = sym is 
 pub gathered_other : (lines : List ReportLine) (l : ReportLine) (g : Gathered) → IsOther l → AreGathered lines g → AreGathered (lines ++ l ∷ []) g
 gathered_other lines l g other before = record {
   bound = bound_other lines l g.bound other before.bound;
-  steps = before.steps ∙ sym (steps_in-append lines (l ∷ []) ∙ (ap (λ steps. steps_in lines ++ steps) (steps_other l other) ∙ append-nil (steps_in lines)));
+  steps = before.steps ∙ sym (steps_in-append lines (l ∷ []) ∙ (ap (λ steps. steps_of_lines lines ++ steps) (steps_other l other) ∙ append-nil (steps_of_lines lines)));
 }
 
 pub refutes_at_end : (lines : List ReportLine) (bound : Bound) (number : ℕ) → number ≡ length lines + 1 → RefutesAt (lines ++ refutes bound ∷ []) number bound
@@ -147,8 +147,8 @@ refutes_at_end lines bound number is = record {
       ap (slice_get (lines ++ refutes bound ∷ [])) last ∙ at_end lines (refutes bound);
 }
 
-pub steps_refutes : (lines : List ReportLine) (bound : Bound) → steps_in (lines ++ refutes bound ∷ []) ≡ steps_in lines
-steps_refutes lines bound = steps_in-append lines (refutes bound ∷ []) ∙ append-nil (steps_in lines)
+pub steps_refutes : (lines : List ReportLine) (bound : Bound) → steps_of_lines (lines ++ refutes bound ∷ []) ≡ steps_of_lines lines
+steps_refutes lines bound = steps_in-append lines (refutes bound ∷ []) ∙ append-nil (steps_of_lines lines)
 
 pub bound_step : (lines : List ReportLine) (s : Step) (found : Option (Bound × ℕ)) → HasBound lines found → HasBound (lines ++ step s ∷ []) found
 bound_step lines s None nothing = λ k bound is. elim (cases_lt k (length lines)) [
@@ -162,7 +162,7 @@ bound_step lines s None nothing = λ k bound is. elim (cases_lt k (length lines)
 ]
 bound_step lines s (Some (bound, n)) at = record { some = at.some; is_there = at_front lines (step s) (n - 1) (slice_get_within lines (n - 1) (refutes bound) at.is_there) ∙ at.is_there }
 
-pub steps_step : (lines : List ReportLine) (s : Step) → steps_in (lines ++ step s ∷ []) ≡ steps_in lines ++ s ∷ []
+pub steps_step : (lines : List ReportLine) (s : Step) → steps_of_lines (lines ++ step s ∷ []) ≡ steps_of_lines lines ++ s ∷ []
 steps_step lines s = steps_in-append lines (step s ∷ [])
 
 abbrev pub IsOtherRead : ReadLine → Type 0
@@ -171,7 +171,7 @@ IsOtherRead (read.Step text) = ⊥
 IsOtherRead found = Unit {0}
 
 -- what was read is no step and no bound
-pub says_other : (found : ReadLine) (l : ReportLine) → IsOtherRead found → Says found l → IsOther l
+pub says_other : (found : ReadLine) (l : ReportLine) → IsOtherRead found → SaysLine found l → IsOther l
 says_other read.Header l other says = subst IsOther (sym says) tt
 says_other read.Done l other says = subst IsOther (sym says) tt
 says_other read.Impossible l other says = subst IsOther (sym says) tt
@@ -207,36 +207,36 @@ pub ok_tells : {T E : Type 0} (r : Result T E) (P : Type 0) → is_err r ≡ fal
 ok_tells (Ok x) P is holds = holds
 ok_tells (Err e) P is holds = absurd (let never : true ≡ false = is in cc)
 
-pub steps_some : (found : ReadLine) (text : StepText) (lines : List ReportLine) (l : ReportLine) → found ≡ read.Step text → Says found l → 0 < length (steps_in (lines ++ l ∷ []))
-steps_some found text lines l is says = by_line l (subst (λ f. Says f l) is says)
+pub steps_some : (found : ReadLine) (text : StepText) (lines : List ReportLine) (l : ReportLine) → found ≡ read.Step text → SaysLine found l → 0 < length (steps_of_lines (lines ++ l ∷ []))
+steps_some found text lines l is says = by_line l (subst (λ f. SaysLine f l) is says)
   where
-    by_line : (l : ReportLine) → Says (read.Step text) l → 0 < length (steps_in (lines ++ l ∷ []))
-    by_line (step s) says = omega (arith, ap length (steps_step lines s), length-append (steps_in lines) (s ∷ []))
+    by_line : (l : ReportLine) → SaysLine (read.Step text) l → 0 < length (steps_of_lines (lines ++ l ∷ []))
+    by_line (step s) says = omega (arith, ap length (steps_step lines s), length-append (steps_of_lines lines) (s ∷ []))
     by_line l says = absurd says
 
-pub gathered_refutes : (found : ReadLine) (bound : Bound) (lines : List ReportLine) (l : ReportLine) (g h : Gathered) (number : ℕ) → found ≡ read.Refutes bound → Says found l → number ≡ length lines + 1
+pub gathered_refutes : (found : ReadLine) (bound : Bound) (lines : List ReportLine) (l : ReportLine) (g h : Gathered) (number : ℕ) → found ≡ read.Refutes bound → SaysLine found l → number ≡ length lines + 1
     → h.bound ≡ Some (bound, number) → h.steps.items ≡ g.steps.items → AreGathered lines g → AreGathered (lines ++ l ∷ []) h
 gathered_refutes found bound lines l g h number is says counted new same before =
-    let line_is : l ≡ refutes bound = subst (λ f. Says f l) is says in
+    let line_is : l ≡ refutes bound = subst (λ f. SaysLine f l) is says in
     subst (λ x. AreGathered (lines ++ x ∷ []) h) (sym line_is) (record {
       bound = subst (HasBound (lines ++ refutes bound ∷ [])) (sym new) (refutes_at_end lines bound number counted);
       steps = same ∙ (before.steps ∙ sym (steps_refutes lines bound));
     })
 
-pub gathered_step : (found : ReadLine) (text : StepText) (read_step : Step) (lines : List ReportLine) (l : ReportLine) (g h : Gathered) → found ≡ read.Step text → Says found l → IsSpelled l
+pub gathered_step : (found : ReadLine) (text : StepText) (read_step : Step) (lines : List ReportLine) (l : ReportLine) (g h : Gathered) → found ≡ read.Step text → SaysLine found l → IsSpelled l
     → ((other : Step) → IsInRange other → IsTextOf text other → other ≡ read_step)
     → h.bound ≡ g.bound → h.steps.items ≡ g.steps.items ++ read_step ∷ [] → AreGathered lines g → AreGathered (lines ++ l ∷ []) h
-gathered_step found text read_step lines l g h is says fits only same grew before = by_line l (subst (λ f. Says f l) is says) fits
+gathered_step found text read_step lines l g h is says fits only same grew before = by_line l (subst (λ f. SaysLine f l) is says) fits
   where
-    by_line : (l : ReportLine) → Says (read.Step text) l → IsSpelled l → AreGathered (lines ++ l ∷ []) h
+    by_line : (l : ReportLine) → SaysLine (read.Step text) l → IsSpelled l → AreGathered (lines ++ l ∷ []) h
     by_line (step s) says fits = record {
       bound = subst (HasBound (lines ++ step s ∷ [])) (sym same) (bound_step lines s g.bound before.bound);
-      steps = grew ∙ (ap (λ steps. steps ++ read_step ∷ []) before.steps ∙ (ap (λ one. steps_in lines ++ one ∷ []) (sym (only s fits says)) ∙ sym (steps_step lines s)));
+      steps = grew ∙ (ap (λ steps. steps ++ read_step ∷ []) before.steps ∙ (ap (λ one. steps_of_lines lines ++ one ∷ []) (sym (only s fits says)) ∙ sym (steps_step lines s)));
     }
     by_line l says fits = absurd says
 
 pub reaches_step : (bytes : List ℕ) (number : ℕ) (place : Place) (rest behind : List ℕ) (found : ReadLine) → IsReadTo bytes number place rest → (line : IsFound (MayStand place) rest found behind)
-    → ((lines : List ReportLine) (l : ReportLine) → Says found l → 0 < length (steps_in (lines ++ l ∷ []))) → ReachesStep bytes
+    → ((lines : List ReportLine) (l : ReportLine) → SaysLine found l → 0 < length (steps_of_lines (lines ++ l ∷ []))) → ReachesStep bytes
 unfolding IsReadTo-more
 reaches_step bytes number place rest behind found read line some =
     let more = IsReadTo-more bytes number place rest behind line.line read line.fits line.is_front in
@@ -261,9 +261,9 @@ unfolding IsReadTo-more
 more_gathered bytes number place rest behind l h read fits is gathered = (IsReadTo-more bytes number place rest behind l read fits is, gathered)
 
 pub states : (bytes : List ℕ) (number : ℕ) (place : Place) (rest : List ℕ) (g : Gathered) (r : Refutation) (bound : Bound) (n : ℕ) → place ≡ Finished → length rest ≡ 0 → (read : IsReadTo bytes number place rest) → AreGathered read.lines g
-    → g.bound ≡ Some (bound, n) → r.bound ≡ bound → r.log.steps ≡ g.steps.items → States bytes r n
+    → g.bound ≡ Some (bound, n) → r.bound ≡ bound → r.log.steps ≡ g.steps.items → StatesRefutation bytes r n
 states bytes number place [] g r bound n at none read gathered found same steps = record {
-  report = record { lines = read.lines; leads = subst (Leads Start read.lines) at read.read.leads; spelled = read.read.spelled; text = read.read.so_far ∙ append-nil (text_of read.lines) };
+  report = record { lines = read.lines; leads = subst (LinesLead Start read.lines) at read.read.leads; spelled = read.read.spelled; text = read.read.so_far ∙ append-nil (text_of_lines read.lines) };
   bound = subst (RefutesAt read.lines n) (sym same) (subst (HasBound read.lines) found gathered.bound);
   steps = steps ∙ gathered.steps;
 }
@@ -272,7 +272,7 @@ states bytes number place (b ∷ rest) g r bound n at none read gathered found s
 pub states_none : (bytes : List ℕ) (number : ℕ) (place : Place) (rest : List ℕ) (g : Gathered) → place ≡ Finished → length rest ≡ 0 → (read : IsReadTo bytes number place rest) → AreGathered read.lines g
     → g.bound ≡ None → StatesNone bytes
 states_none bytes number place [] g at none read gathered found = record {
-  report = record { lines = read.lines; leads = subst (Leads Start read.lines) at read.read.leads; spelled = read.read.spelled; text = read.read.so_far ∙ append-nil (text_of read.lines) };
+  report = record { lines = read.lines; leads = subst (LinesLead Start read.lines) at read.read.leads; spelled = read.read.spelled; text = read.read.so_far ∙ append-nil (text_of_lines read.lines) };
   nothing = subst (HasBound read.lines) found gathered.bound;
 }
 states_none bytes number place (b ∷ rest) g at none read gathered found = absurd (omega arith)

@@ -16,7 +16,7 @@ use Rattle.vss_io.proofs.CallLaws.{Prints-stopped, HasPrinted-ended}
 use Rattle.vss_report.specs.declared.cells.NamedCell.{NamedCell}
 use Rattle.vss_report.specs.Designs.{lines_of_run, lines_of_runs}
 use Rattle.vss_report.specs.Found.{name_of_cell}
-use Rattle.vss_report.specs.Lines.{ReportLine, conflicts, count, border, run, refutes, cut, joint, CellName, sign, spaced, full_text, text_of}
+use Rattle.vss_report.specs.Lines.{ReportLine, conflicts, count, border, run, refutes, cut, joint, CellName, sign, spaced, full_text, text_of_lines}
 use Rattle.vss_report.specs.Names.{cell_named}
 use Rattle.derivation_log.specs.declared.step.Bound.TheVariants.{AtMost}
 
@@ -43,30 +43,30 @@ texts_ended before now left text x so_far none = HasPrinted-ended before now now
 
 -- the lines that are left begin with the next one
 pub next_line : {X : Type 0} (line_of : X → ReportLine) (items : List X) (place : ℕ) (x : X) → place < length items → x ≡ get_or items place x
-    → full_text (line_of x) ++ text_of (map line_of (drop (place + 1) items)) ≡ text_of (map line_of (drop place items))
+    → full_text (line_of x) ++ text_of_lines (map line_of (drop (place + 1) items)) ≡ text_of_lines (map line_of (drop place items))
 next_line line_of items place x within is =
-    ap (λ one. full_text (line_of one) ++ text_of (map line_of (drop (place + 1) items))) is ∙ sym (at_drop_more (λ xs. text_of (map line_of xs)) items place x within)
+    ap (λ one. full_text (line_of one) ++ text_of_lines (map line_of (drop (place + 1) items))) is ∙ sym (at_drop_more (λ xs. text_of_lines (map line_of xs)) items place x within)
 
 -- the same of the item that stands at the place
 pub next_line_at : {X : Type 0} (line_of : X → ReportLine) (items : List X) (place : ℕ) (d : X) → place < length items
-    → full_text (line_of (get_or items place d)) ++ text_of (map line_of (drop (place + 1) items)) ≡ text_of (map line_of (drop place items))
-next_line_at line_of items place d within = sym (at_drop_more (λ xs. text_of (map line_of xs)) items place d within)
+    → full_text (line_of (get_or items place d)) ++ text_of_lines (map line_of (drop (place + 1) items)) ≡ text_of_lines (map line_of (drop place items))
+next_line_at line_of items place d within = sym (at_drop_more (λ xs. text_of_lines (map line_of xs)) items place d within)
 
-pub no_line : {X : Type 0} (line_of : X → ReportLine) (items : List X) (place : ℕ) → length items ≤ place → text_of (map line_of (drop place items)) ≡ []
-no_line line_of items place past = ap (λ xs. text_of (map line_of xs)) (drop_all place items past)
+pub no_line : {X : Type 0} (line_of : X → ReportLine) (items : List X) (place : ℕ) → length items ≤ place → text_of_lines (map line_of (drop place items)) ≡ []
+no_line line_of items place past = ap (λ xs. text_of_lines (map line_of xs)) (drop_all place items past)
 
 pub next_run : (labels : Labels) (runs : List TrainRun) (place : ℕ) (r : TrainRun) → place < length runs → r ≡ get_or runs place r
-    → text_of (lines_of_run labels place r) ++ text_of (lines_of_runs labels (place + 1) (drop (place + 1) runs)) ≡ text_of (lines_of_runs labels place (drop place runs))
+    → text_of_lines (lines_of_run labels place r) ++ text_of_lines (lines_of_runs labels (place + 1) (drop (place + 1) runs)) ≡ text_of_lines (lines_of_runs labels place (drop place runs))
 next_run labels runs place r within is =
-    ap (λ one. text_of (lines_of_run labels place one) ++ text_of (lines_of_runs labels (place + 1) (drop (place + 1) runs))) is
+    ap (λ one. text_of_lines (lines_of_run labels place one) ++ text_of_lines (lines_of_runs labels (place + 1) (drop (place + 1) runs))) is
     ∙ (sym (flat_map-append full_text (lines_of_run labels place (get_or runs place r)) (lines_of_runs labels (place + 1) (drop (place + 1) runs)))
-    ∙ sym (at_drop_more (λ rs. text_of (lines_of_runs labels place rs)) runs place r within))
+    ∙ sym (at_drop_more (λ rs. text_of_lines (lines_of_runs labels place rs)) runs place r within))
 
-pub no_run : (labels : Labels) (runs : List TrainRun) (place : ℕ) → length runs ≤ place → text_of (lines_of_runs labels place (drop place runs)) ≡ []
-no_run labels runs place past = ap (λ rs. text_of (lines_of_runs labels place rs)) (drop_all place runs past)
+pub no_run : (labels : Labels) (runs : List TrainRun) (place : ℕ) → length runs ≤ place → text_of_lines (lines_of_runs labels place (drop place runs)) ≡ []
+no_run labels runs place past = ap (λ rs. text_of_lines (lines_of_runs labels place rs)) (drop_all place runs past)
 
 -- lines behind others
-pub behind_lines : (lines more : List ReportLine) → text_of lines ++ text_of more ≡ text_of (lines ++ more)
+pub behind_lines : (lines more : List ReportLine) → text_of_lines lines ++ text_of_lines more ≡ text_of_lines (lines ++ more)
 behind_lines lines more = sym (flat_map-append full_text lines more)
 
 -- the pieces of a line are its text

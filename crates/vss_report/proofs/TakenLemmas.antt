@@ -12,13 +12,13 @@ use Rattle.cell_net.specs.declared.labels.Labels.{Labels}
 use Rattle.cell_net.specs.declared.plans.Sweep.{Sweep}
 use Rattle.cell_net.specs.declared.plans.TrainRun.{TrainRun}
 use Rattle.derivation_log.specs.declared.step.Bound.{Bound}
-use Rattle.vss_report.specs.DesignFaults.{IsPlace, HasCells, HasCellsOfRun}
+use Rattle.vss_report.specs.DesignFaults.{IsPlaceNumber, HasCells, HasCellsOfRun}
 use Rattle.vss_report.specs.Designs.{sweep_line, lines_of_run, lines_of_runs, has_design, borders_in, runs_in, runs_begun}
-use Rattle.vss_report.specs.Fits.{IsNextBorder, IsBorderTooLow, IsRunOutOfTurn, IsKnownCell, Fits, HasAllRuns}
+use Rattle.vss_report.specs.Fits.{IsNextBorder, IsBorderTooLow, IsRunOutOfTurn, IsKnownCell, LineFits, HasAllRuns}
 use Rattle.vss_report.specs.Lines.{ReportLine, CellName, PlaceName, count, border, run, sweep, step}
 use Rattle.vss_report.specs.Names.{train_name, cell_named, place_named, IsPlaceOf}
-use Rattle.vss_report.specs.Readings.{Says}
-use Rattle.vss_report.specs.Taken.{IsFrom, AreRising, AreTaken, AddsSweep}
+use Rattle.vss_report.specs.Readings.{SaysLine}
+use Rattle.vss_report.specs.Taken.{IsOneAboveLast, AreRising, AreTaken, AddsSweep}
 use Rattle.vss_report.specs.declared.design_parts.DesignParts.{DesignParts}
 use Rattle.vss_report.specs.declared.read_line.ReadLine.{ReadLine}
 use Rattle.vss_report.specs.declared.read_line.ReadLine.TheVariants as read
@@ -32,7 +32,7 @@ next_border labels lines parts name c good taken is above = record {
   is_place = is;
   above = λ last is_last.
       let found = below_from (place_named labels) parts.borders.items parts.from is_last.earlier is_last.name taken.from (taken.borders_are ∙ is_last.is_last) in
-      let same : found.0 ≡ last = place_same labels is_last.name found.0 last good (record { within = found.3 (IsPlace labels) taken.places; named = found.1 }) is_last.is_place in
+      let same : found.0 ≡ last = place_same labels is_last.name found.0 last good (record { within = found.3 (IsPlaceNumber labels) taken.places; named = found.1 }) is_last.is_place in
       omega (arith, found.2, ap (λ (b : CandidateId). b.0) same);
 }
 
@@ -41,9 +41,9 @@ pub border_taken : (labels : Labels) (lines : List ReportLine) (old new : Design
 border_taken labels lines old new name c good taken is above begun borders from runs = record {
   fit = fit_push labels [] lines (border name) taken.fit (next_border labels lines old name c good taken is above);
   begun = begun ∙ (taken.begun ∙ sym (has_design-push lines (border name) refl));
-  places = subst (All (IsPlace labels)) (sym borders) (All-push (IsPlace labels) old.borders.items c taken.places is.within);
+  places = subst (All (IsPlaceNumber labels)) (sym borders) (All-push (IsPlaceNumber labels) old.borders.items c taken.places is.within);
   rising = subst AreRising (sym borders) (rising_push old.borders.items c old.from taken.rising taken.from above);
-  from = subst (λ bs. IsFrom bs new.from) (sym borders) (subst (IsFrom (old.borders.items ++ c ∷ [])) (sym from) (from_push old.borders.items c));
+  from = subst (λ bs. IsOneAboveLast bs new.from) (sym borders) (subst (IsOneAboveLast (old.borders.items ++ c ∷ [])) (sym from) (from_push old.borders.items c));
   borders_are =
       ap (map (place_named labels)) borders ∙ (map-append (place_named labels) old.borders.items (c ∷ [])
       ∙ (ap (λ names. names ++ place_named labels c ∷ []) taken.borders_are ∙ (ap (λ n. borders_in lines ++ n ∷ []) is.named ∙ sym (borders_in-append lines (border name ∷ [])))));
@@ -70,17 +70,17 @@ low_border labels lines parts name c taken is none = elim (cases_lt c.0 parts.fr
           earlier = map (place_named labels) end.earlier;
           name = place_named labels end.last;
           is_last = sym taken.borders_are ∙ (ap (map (place_named labels)) end.is ∙ map-append (place_named labels) end.earlier (end.last ∷ []));
-          is_place = record { within = at_last end.earlier end.last (subst (All (IsPlace labels)) end.is taken.places); named = refl };
+          is_place = record { within = at_last end.earlier end.last (subst (All (IsPlaceNumber labels)) end.is taken.places); named = refl };
         };
         low = omega (arith, end.above);
       }
   | inr above ↦ absurd (none c above is)
 ]
   where
-    at_last : (earlier : List CandidateId) (last : CandidateId) → All (IsPlace labels) (earlier ++ last ∷ []) → IsPlace labels last
+    at_last : (earlier : List CandidateId) (last : CandidateId) → All (IsPlaceNumber labels) (earlier ++ last ∷ []) → IsPlaceNumber labels last
     at_last earlier last all =
         let found = below_from (λ (b : CandidateId). b) (earlier ++ last ∷ []) (last.0 + 1) earlier last (from_push earlier last) (map-same (earlier ++ last ∷ [])) in
-        subst (IsPlace labels) found.1 (found.3 (IsPlace labels) all)
+        subst (IsPlaceNumber labels) found.1 (found.3 (IsPlaceNumber labels) all)
 
 -- the run of the next train
 pub run_taken : (labels : Labels) (lines : List ReportLine) (old new : DesignParts) (train : List ℕ) (start : ℕ) (r : TrainRun) → AreTaken labels lines old → slice_get labels.trains (length old.runs.items) ≡ Some train
@@ -88,9 +88,9 @@ pub run_taken : (labels : Labels) (lines : List ReportLine) (old new : DesignPar
 run_taken labels lines old new train start r taken next starts none begun borders from runs = record {
   fit = fit_push labels [] lines (run train start) taken.fit (ap (slice_get labels.trains) (sym taken.counted) ∙ next);
   begun = begun ∙ (taken.begun ∙ sym (has_design-push lines (run train start) refl));
-  places = subst (All (IsPlace labels)) (sym borders) taken.places;
+  places = subst (All (IsPlaceNumber labels)) (sym borders) taken.places;
   rising = subst AreRising (sym borders) taken.rising;
-  from = subst (λ bs. IsFrom bs new.from) (sym borders) (subst (IsFrom old.borders.items) (sym from) taken.from);
+  from = subst (λ bs. IsOneAboveLast bs new.from) (sym borders) (subst (IsOneAboveLast old.borders.items) (sym from) taken.from);
   borders_are = ap (map (place_named labels)) borders ∙ (taken.borders_are ∙ sym (borders_in-append lines (run train start ∷ []) ∙ append-nil (borders_in lines)));
   cells = subst (All (HasCellsOfRun labels)) (sym runs) (All-push (HasCellsOfRun labels) old.runs.items r taken.cells (subst (All (HasCells labels)) (sym none) (All-nil (HasCells labels))));
   counted = ap length runs ∙ omega (arith, taken.counted, runs_begun-append lines (run train start ∷ []), length-append old.runs.items (r ∷ []));
@@ -113,9 +113,9 @@ pub sweep_taken : (labels : Labels) (lines : List ReportLine) (old new : DesignP
 sweep_taken labels lines old new named s taken some are has adds begun borders from = record {
   fit = fit_push labels [] lines (sweep named) taken.fit (known s.cells named are has);
   begun = begun ∙ (taken.begun ∙ sym (has_design-push lines (sweep named) refl));
-  places = subst (All (IsPlace labels)) (sym borders) taken.places;
+  places = subst (All (IsPlaceNumber labels)) (sym borders) taken.places;
   rising = subst AreRising (sym borders) taken.rising;
-  from = subst (λ bs. IsFrom bs new.from) (sym borders) (subst (IsFrom old.borders.items) (sym from) taken.from);
+  from = subst (λ bs. IsOneAboveLast bs new.from) (sym borders) (subst (IsOneAboveLast old.borders.items) (sym from) taken.from);
   borders_are = ap (map (place_named labels)) borders ∙ (taken.borders_are ∙ sym (borders_in-append lines (sweep named ∷ []) ∙ append-nil (borders_in lines)));
   cells = cells_sweep labels old.runs.items new.runs.items s adds has taken.cells;
   counted = omega (arith, count_sweep old.runs.items new.runs.items s adds, taken.counted, runs_begun-append lines (sweep named ∷ []));
@@ -162,7 +162,7 @@ plain_begun (sweep cells) plain = absurd plain
 plain_begun l plain = refl
 
 -- a line that tells nothing of a design
-pub plain_taken : (labels : Labels) (lines : List ReportLine) (parts : DesignParts) (l : ReportLine) → IsPlain l → Fits labels lines l → AreTaken labels lines parts → AreTaken labels (lines ++ l ∷ []) parts
+pub plain_taken : (labels : Labels) (lines : List ReportLine) (parts : DesignParts) (l : ReportLine) → IsPlain l → LineFits labels lines l → AreTaken labels lines parts → AreTaken labels (lines ++ l ∷ []) parts
 plain_taken labels lines parts l plain fits taken = record {
   fit = fit_push labels [] lines l taken.fit fits;
   begun = taken.begun ∙ sym (has_design-push lines l (plain_design l plain));
@@ -181,9 +181,9 @@ pub count_taken : (labels : Labels) (lines : List ReportLine) (old new : DesignP
 count_taken labels lines old new n taken begun borders from runs = record {
   fit = fit_push labels [] lines (count n) taken.fit tt;
   begun = begun ∙ sym (has_design-count lines n);
-  places = subst (All (IsPlace labels)) (sym borders) taken.places;
+  places = subst (All (IsPlaceNumber labels)) (sym borders) taken.places;
   rising = subst AreRising (sym borders) taken.rising;
-  from = subst (λ bs. IsFrom bs new.from) (sym borders) (subst (IsFrom old.borders.items) (sym from) taken.from);
+  from = subst (λ bs. IsOneAboveLast bs new.from) (sym borders) (subst (IsOneAboveLast old.borders.items) (sym from) taken.from);
   borders_are = ap (map (place_named labels)) borders ∙ (taken.borders_are ∙ sym (borders_in-append lines (count n ∷ []) ∙ append-nil (borders_in lines)));
   cells = subst (All (HasCellsOfRun labels)) (sym runs) taken.cells;
   counted = ap length runs ∙ omega (arith, taken.counted, runs_begun-append lines (count n ∷ []));
@@ -221,13 +221,13 @@ IsOtherLine (read.Refutes bound) = ⊥
 IsOtherLine read.End = ⊥
 IsOtherLine found = Unit {0}
 
-pub other_taken : (labels : Labels) (lines : List ReportLine) (parts : DesignParts) (found : ReadLine) (l : ReportLine) → IsOtherLine found → Says found l → AreTaken labels lines parts → AreTaken labels (lines ++ l ∷ []) parts
+pub other_taken : (labels : Labels) (lines : List ReportLine) (parts : DesignParts) (found : ReadLine) (l : ReportLine) → IsOtherLine found → SaysLine found l → AreTaken labels lines parts → AreTaken labels (lines ++ l ∷ []) parts
 other_taken labels lines parts found l other says taken = by_line l (told found l other says) taken
   where
     IsFree : ReportLine → Type 0
-    IsFree l = IsPlain l × Fits labels lines l
+    IsFree l = IsPlain l × LineFits labels lines l
 
-    told : (found : ReadLine) (l : ReportLine) → IsOtherLine found → Says found l → IsFree l
+    told : (found : ReadLine) (l : ReportLine) → IsOtherLine found → SaysLine found l → IsFree l
     told read.Header l other says = subst IsFree (sym says) (tt, tt)
     told read.Done l other says = subst IsFree (sym says) (tt, tt)
     told read.Impossible l other says = subst IsFree (sym says) (tt, tt)

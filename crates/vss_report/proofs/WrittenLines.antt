@@ -17,7 +17,7 @@ use Rattle.derivation_log.specs.declared.step.Step.{Step}
 use Rattle.vss_lists.specs.Breaks.{HoldsOfEach}
 use Rattle.vss_names.specs.Names.{IsName}
 use Rattle.vss_text.specs.Numbers.{IsShort}
-use Rattle.vss_report.specs.DesignFaults.{IsPlace}
+use Rattle.vss_report.specs.DesignFaults.{IsPlaceNumber}
 use Rattle.vss_report.specs.Designs.{sweep_line, lines_of_run, lines_of_runs, has_design, borders_in, runs_begun}
 use Rattle.vss_report.specs.Fits.{IsKnownCell, IsLastBorder, FitBehind, HasAllRuns}
 use Rattle.vss_report.specs.Lines.{ReportLine, PlaceName, header, verdict_done, verdict_impossible, verdict_spent, conflicts, best_none, count, run, smaller_none, refutes, step, end_line, IsSpelledCell, IsSpelledPlace, IsSpelled}
@@ -46,7 +46,7 @@ place_spelled : (labels : Labels) (label : PlaceLabel) → AreLabels labels → 
 place_spelled labels (Cut track at) good fits short = (named_at labels.tracks track good.tracks_named (fits.cut track at refl), short)
 place_spelled labels (Joint name) good fits short = fits.joint name refl
 
-border_spelled : (labels : Labels) → AreLabels labels → HasShortNames labels → (b : CandidateId) → IsPlace labels b → IsSpelled (border_line labels b)
+border_spelled : (labels : Labels) → AreLabels labels → HasShortNames labels → (b : CandidateId) → IsPlaceNumber labels b → IsSpelled (border_line labels b)
 border_spelled labels good short b within =
     let found = some_at labels.places b.0 within in
     subst (λ o. IsSpelledPlace (labelled_place labels o)) (sym found.1)
@@ -80,7 +80,7 @@ runs_spelled labels k (r ∷ rs) good short few fit =
 design_spelled : (labels : Labels) (bs : List CandidateId) (plan : Plan) → AreLabels labels → HasShortNames labels → IsReportDesign labels bs plan → All IsSpelled (lines_of_design labels bs plan)
 design_spelled labels bs plan good short fit =
     All-cons IsSpelled (count (length bs)) (map (border_line labels) bs ++ lines_of_runs labels 0 plan.runs) fit.few
-    (All-append IsSpelled (map (border_line labels) bs) (lines_of_runs labels 0 plan.runs) (all_mapped (IsPlace labels) IsSpelled (border_line labels) bs (border_spelled labels good short) fit.places)
+    (All-append IsSpelled (map (border_line labels) bs) (lines_of_runs labels 0 plan.runs) (all_mapped (IsPlaceNumber labels) IsSpelled (border_line labels) bs (border_spelled labels good short) fit.places)
     (runs_spelled labels 0 plan.runs good short (omega (arith, fit.one_run_each)) fit.runs))
 
 refutation_spelled : (r : Refutation) → IsReportRefutation r → All IsSpelled (lines_of_refutation r)
@@ -131,7 +131,7 @@ last_same [] (z ∷ ys) x y is = absurd (omega (arith, ap length is, length-appe
 last_same (z ∷ xs) [] x y is = absurd (omega (arith, ap length is, length-append xs (x ∷ [])))
 last_same (z ∷ xs) (w ∷ ys) x y is = let more : xs ++ x ∷ [] ≡ ys ++ y ∷ [] = cc in last_same xs ys x y more
 
-below_next : (labels : Labels) (before : List ReportLine) (b c : CandidateId) → AreLabels labels → IsPlace labels b → b.0 < c.0 → IsBelow labels (before ++ border_line labels b ∷ []) c
+below_next : (labels : Labels) (before : List ReportLine) (b c : CandidateId) → AreLabels labels → IsPlaceNumber labels b → b.0 < c.0 → IsBelow labels (before ++ border_line labels b ∷ []) c
 unfolding IsBelow
 below_next labels before b c good within below = λ last is_last.
     let same : place_named labels b ≡ is_last.name = last_same (borders_in before) is_last.earlier (place_named labels b) is_last.name (sym (borders_in-append before (border_line labels b ∷ [])) ∙ is_last.is_last) in
@@ -142,13 +142,13 @@ below_next labels before b c good within below = λ last is_last.
 Rising : List CandidateId → Type 0
 Rising bs = (k : ℕ) (b c : CandidateId) → slice_get bs k ≡ Some b → slice_get bs (suc k) ≡ Some c → b.0 < c.0
 
-borders_fit : (labels : Labels) (before : List ReportLine) (bs : List CandidateId) → AreLabels labels → All (IsPlace labels) bs → Rising bs → ((c : CandidateId) → slice_get bs 0 ≡ Some c → IsBelow labels before c) → FitBehind labels before (map (border_line labels) bs)
+borders_fit : (labels : Labels) (before : List ReportLine) (bs : List CandidateId) → AreLabels labels → All (IsPlaceNumber labels) bs → Rising bs → ((c : CandidateId) → slice_get bs 0 ≡ Some c → IsBelow labels before c) → FitBehind labels before (map (border_line labels) bs)
 unfolding IsBelow Rising
 borders_fit labels before [] good places rising below = tt
 borders_fit labels before (b ∷ bs) good places rising below =
-    let within = All-head (IsPlace labels) b bs places in (
+    let within = All-head (IsPlaceNumber labels) b bs places in (
       record { candidate = b; is_place = record { within = within; named = refl }; above = below b refl },
-      borders_fit labels (before ++ border_line labels b ∷ []) bs good (All-tail (IsPlace labels) b bs places) (λ k c e. rising (suc k) c e) (λ c is. below_next labels before b c good within (rising 0 b c refl is)),
+      borders_fit labels (before ++ border_line labels b ∷ []) bs good (All-tail (IsPlaceNumber labels) b bs places) (λ k c e. rising (suc k) c e) (λ c is. below_next labels before b c good within (rising 0 b c refl is)),
     )
 
 sweeps_fit : (labels : Labels) (before : List ReportLine) (ss : List Sweep) → All (IsReportSweep labels) ss → FitBehind labels before (map (sweep_line labels) ss)

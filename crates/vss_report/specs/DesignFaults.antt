@@ -7,10 +7,10 @@ use Rattle.cell_net.specs.declared.plans.Sweep.{Sweep}
 use Rattle.cell_net.specs.declared.plans.TrainRun.{TrainRun}
 use Rattle.vss_report.specs.Designs.{lines_of_runs, has_design, borders_in, runs_in}
 use Rattle.vss_report.specs.Faults.{IsBadLine}
-use Rattle.vss_report.specs.Fits.{AllFit, IsOutOfOrder, NamesUnknown}
-use Rattle.vss_report.specs.Lines.{ReportLine, full_text, text_of, IsSpelled}
+use Rattle.vss_report.specs.Fits.{LinesFit, IsOutOfOrder, NamesUnknown}
+use Rattle.vss_report.specs.Lines.{ReportLine, full_text, text_of_lines, IsSpelled}
 use Rattle.vss_report.specs.Names.{place_named}
-use Rattle.vss_report.specs.Places.{Leads, MayStand}
+use Rattle.vss_report.specs.Places.{LinesLead, MayStand}
 use Rattle.vss_report.specs.Reports.{IsReport}
 use Rattle.vss_report.specs.declared.fault.ReportFault.{ReportFault}
 use Rattle.vss_report.specs.declared.fault.ReportFault.TheVariants.{BadLine, UnknownName, NoPart, Memory}
@@ -18,8 +18,8 @@ use Rattle.vss_report.specs.declared.place.Place.{Place}
 use Rattle.vss_report.specs.declared.place.Place.TheVariants.{Start}
 
 -- the scene has the place, the cells
-abbrev pub IsPlace : Labels → CandidateId → Type 0
-IsPlace labels candidate = candidate.0 < length labels.places
+abbrev pub IsPlaceNumber : Labels → CandidateId → Type 0
+IsPlaceNumber labels candidate = candidate.0 < length labels.places
 
 abbrev pub HasCells : Labels → Sweep → Type 0
 HasCells labels s = All (λ d. d.cell.0 < length labels.cells) s.cells
@@ -32,8 +32,8 @@ HasCellsOfRun labels r = All (HasCells labels) r.sweeps
 pub record StatesDesign (labels : Labels) (bytes : List ℕ) (borders : List CandidateId) (plan : Plan) : Type 0 where
   pub report : IsReport bytes
   pub begun : IsTrue (has_design report.lines)
-  pub fit : AllFit labels report.lines
-  pub places : All (IsPlace labels) borders
+  pub fit : LinesFit labels report.lines
+  pub places : All (IsPlaceNumber labels) borders
   pub borders_are : map (place_named labels) borders ≡ borders_in report.lines
   pub cells : All (HasCellsOfRun labels) plan.runs
   pub runs_are : lines_of_runs labels 0 plan.runs ≡ runs_in report.lines
@@ -41,7 +41,7 @@ pub record StatesDesign (labels : Labels) (bytes : List ℕ) (borders : List Can
 -- the lines of the report fit the scene, and it states no design
 pub record StatesNoDesign (labels : Labels) (bytes : List ℕ) : Type 0 where
   pub report : IsReport bytes
-  pub fit : AllFit labels report.lines
+  pub fit : LinesFit labels report.lines
   pub nothing : has_design report.lines ≡ false
 
 -- the text begins with these lines of a report, each of which fits the scene
@@ -49,10 +49,10 @@ pub record BeginsWell (labels : Labels) (bytes : List ℕ) : Type 0 where
   pub lines : List ReportLine
   pub left : List ℕ
   pub at : Place
-  pub leads : Leads Start lines at
+  pub leads : LinesLead Start lines at
   pub spelled : All IsSpelled lines
-  pub begins : bytes ≡ text_of lines ++ left
-  pub fit : AllFit labels lines
+  pub begins : bytes ≡ text_of_lines lines ++ left
+  pub fit : LinesFit labels lines
 
 -- behind lines that fit, the n-th line, counted from 1, is one that a report may have there, with this fault
 pub record FaultyAt (faulty : List ReportLine → ReportLine → Type 0) (labels : Labels) (bytes : List ℕ) (n : ℕ) : Type 0 where
@@ -75,9 +75,9 @@ pub record ReachesDesign (bytes : List ℕ) : Type 0 where
   pub lines : List ReportLine
   pub left : List ℕ
   pub at : Place
-  pub leads : Leads Start lines at
+  pub leads : LinesLead Start lines at
   pub spelled : All IsSpelled lines
-  pub begins : bytes ≡ text_of lines ++ left
+  pub begins : bytes ≡ text_of_lines lines ++ left
   pub some : 0 < length (borders_in lines) + length (runs_in lines)
 
 -- why no design is read: the first fault of a line, or that the report has no design

@@ -59,14 +59,14 @@ abbrev pub HasAllRuns : Labels → List ReportLine → Type 0
 HasAllRuns labels lines = IsTrue (has_design lines) → length labels.trains ≤ runs_begun lines
 
 -- the line fits the scene behind the lines before it
-abbrev pub Fits : Labels → List ReportLine → ReportLine → Type 0
-Fits labels before (border name) = IsNextBorder labels before name
-Fits labels before (run train start) = IsNextRun labels before train
-Fits labels before (sweep cells) = All (IsKnownCell labels) cells
-Fits labels before smaller_none = HasAllRuns labels before
-Fits labels before (refutes bound) = HasAllRuns labels before
-Fits labels before end_line = HasAllRuns labels before
-Fits labels before l = Unit {0}
+abbrev pub LineFits : Labels → List ReportLine → ReportLine → Type 0
+LineFits labels before (border name) = IsNextBorder labels before name
+LineFits labels before (run train start) = IsNextRun labels before train
+LineFits labels before (sweep cells) = All (IsKnownCell labels) cells
+LineFits labels before smaller_none = HasAllRuns labels before
+LineFits labels before (refutes bound) = HasAllRuns labels before
+LineFits labels before end_line = HasAllRuns labels before
+LineFits labels before l = Unit {0}
 
 -- the line breaks the order of borders or of runs, or a run is missing before it
 abbrev pub IsOutOfOrder : Labels → List ReportLine → ReportLine → Type 0
@@ -87,7 +87,7 @@ NamesUnknown labels before l = ⊥
 -- each of the lines fits the scene behind those before it
 abbrev pub FitBehind : Labels → List ReportLine → List ReportLine → Type 0
 FitBehind labels before [] = Unit {0}
-FitBehind labels before (l ∷ lines) = Fits labels before l × FitBehind labels (before ++ l ∷ []) lines
+FitBehind labels before (l ∷ lines) = LineFits labels before l × FitBehind labels (before ++ l ∷ []) lines
 
-abbrev pub AllFit : Labels → List ReportLine → Type 0
-AllFit labels lines = FitBehind labels [] lines
+abbrev pub LinesFit : Labels → List ReportLine → Type 0
+LinesFit labels lines = FitBehind labels [] lines

@@ -98,8 +98,8 @@ line_text end_line = codes "end"
 abbrev pub full_text : ReportLine → List ℕ
 full_text l = line (line_text l)
 
-abbrev pub text_of : List ReportLine → List ℕ
-text_of lines = flat_map full_text lines
+abbrev pub text_of_lines : List ReportLine → List ℕ
+text_of_lines lines = flat_map full_text lines
 
 abbrev pub IsSpelledPlace : PlaceName → Type 0
 IsSpelledPlace (cut track at_m) = IsName track × IsShort at_m

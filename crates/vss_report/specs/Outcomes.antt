@@ -5,7 +5,7 @@ use Rattle.cell_net.specs.declared.labels.Labels.{Labels}
 use Rattle.cell_net.specs.declared.plans.Plan.{Plan}
 use Rattle.derivation_log.specs.declared.step.Refutation.{Refutation}
 use Rattle.vss_report.specs.Designs.{lines_of_runs}
-use Rattle.vss_report.specs.Lines.{ReportLine, header, verdict_done, verdict_impossible, verdict_spent, conflicts, best_none, count, border, smaller_none, refutes, step, end_line, text_of}
+use Rattle.vss_report.specs.Lines.{ReportLine, header, verdict_done, verdict_impossible, verdict_spent, conflicts, best_none, count, border, smaller_none, refutes, step, end_line, text_of_lines}
 use Rattle.vss_report.specs.Names.{place_named}
 use Rattle.vss_report.specs.declared.outcome.Smaller.{Smaller}
 use Rattle.vss_report.specs.declared.outcome.Smaller.TheVariants as smaller
@@ -44,4 +44,4 @@ abbrev pub lines_of_outcome : Labels → Outcome → List ReportLine
 lines_of_outcome labels o = header ∷ (lines_of_verdict labels o ++ end_line ∷ [])
 
 abbrev pub report_text : Labels → Outcome → List ℕ
-report_text labels o = text_of (lines_of_outcome labels o)
+report_text labels o = text_of_lines (lines_of_outcome labels o)

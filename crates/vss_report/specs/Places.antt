@@ -1,6 +1,6 @@
 -- Which lines may stand at a place of a report, and the place behind each.
 use Rattle.std.specs.Prelude.{◌≡◌, ℕ, zero, suc, ◌++◌, Bool, true, false, List, [], ◌∷◌, All, Some, slice_get}
-use Rattle.vss_report.specs.Lines.{ReportLine, header, verdict_done, verdict_impossible, verdict_spent, conflicts, best_none, count, border, run, sweep, smaller_none, refutes, step, end_line, kind_of, text_of, IsSpelled}
+use Rattle.vss_report.specs.Lines.{ReportLine, header, verdict_done, verdict_impossible, verdict_spent, conflicts, best_none, count, border, run, sweep, smaller_none, refutes, step, end_line, kind_of, text_of_lines, IsSpelled}
 use Rattle.vss_report.specs.declared.kind.Kind.{Kind}
 use Rattle.vss_report.specs.declared.kind.Kind.TheVariants as kind
 use Rattle.vss_report.specs.declared.place.Place.{Place}
@@ -67,18 +67,18 @@ pub record MayStand (from : Place) (l : ReportLine) : Type 0 where
   pub among : IsAmong (kinds_at from) (kind_of l)
 
 -- the lines may stand one behind the other from the one place to the other
-abbrev pub Leads : Place → List ReportLine → Place → Type 0
-Leads from [] to = from ≡ to
-Leads from (l ∷ lines) to = IsAmong (kinds_at from) (kind_of l) × Leads (place_after from l) lines to
+abbrev pub LinesLead : Place → List ReportLine → Place → Type 0
+LinesLead from [] to = from ≡ to
+LinesLead from (l ∷ lines) to = IsAmong (kinds_at from) (kind_of l) × LinesLead (place_after from l) lines to
 
 -- the bytes are lines that lead from the place to the end of a report
-pub record Ends (from : Place) (bytes : List ℕ) : Type 0 where
+pub record EndsReport (from : Place) (bytes : List ℕ) : Type 0 where
   pub lines : List ReportLine
-  pub leads : Leads from lines Finished
+  pub leads : LinesLead from lines Finished
   pub spelled : All IsSpelled lines
-  pub text : bytes ≡ text_of lines
+  pub text : bytes ≡ text_of_lines lines
 
 -- the bytes, with more behind them, are such lines
 pub record CanEnd (from : Place) (bytes : List ℕ) : Type 0 where
   pub more : List ℕ
-  pub ends : Ends from (bytes ++ more)
+  pub ends : EndsReport from (bytes ++ more)

@@ -8,23 +8,23 @@ use Rattle.vss_report.specs.declared.read_line.ReadLine.{ReadLine}
 use Rattle.vss_report.specs.declared.read_line.ReadLine.TheVariants as read
 
 -- what was read is this line
-abbrev pub Says : ReadLine → ReportLine → Type 0
-Says read.Header l = l ≡ header
-Says read.Done l = l ≡ verdict_done
-Says read.Impossible l = l ≡ verdict_impossible
-Says read.Spent l = l ≡ verdict_spent
-Says (read.Conflicts n) l = l ≡ conflicts n
-Says read.BestNone l = l ≡ best_none
-Says (read.Count n) l = l ≡ count n
-Says (read.Cut track at_m) l = l ≡ border (cut track.now at_m)
-Says (read.Joint name) l = l ≡ border (joint name.now)
-Says (read.Run train start) l = l ≡ run train.now start
-Says (read.Sweep cells) (sweep named) = cells.now ≡ flat_map spaced named
-Says read.SmallerNone l = l ≡ smaller_none
-Says (read.Refutes bound) l = l ≡ refutes bound
-Says (read.Step text) (step s) = IsTextOf text s
-Says read.End l = l ≡ end_line
-Says text l = ⊥
+abbrev pub SaysLine : ReadLine → ReportLine → Type 0
+SaysLine read.Header l = l ≡ header
+SaysLine read.Done l = l ≡ verdict_done
+SaysLine read.Impossible l = l ≡ verdict_impossible
+SaysLine read.Spent l = l ≡ verdict_spent
+SaysLine (read.Conflicts n) l = l ≡ conflicts n
+SaysLine read.BestNone l = l ≡ best_none
+SaysLine (read.Count n) l = l ≡ count n
+SaysLine (read.Cut track at_m) l = l ≡ border (cut track.now at_m)
+SaysLine (read.Joint name) l = l ≡ border (joint name.now)
+SaysLine (read.Run train start) l = l ≡ run train.now start
+SaysLine (read.Sweep cells) (sweep named) = cells.now ≡ flat_map spaced named
+SaysLine read.SmallerNone l = l ≡ smaller_none
+SaysLine (read.Refutes bound) l = l ≡ refutes bound
+SaysLine (read.Step text) (step s) = IsTextOf text s
+SaysLine read.End l = l ≡ end_line
+SaysLine text l = ⊥
 
 -- a line of the kind
 pub record IsOfKind (kind : Kind) (l : ReportLine) : Type 0 where
@@ -35,7 +35,7 @@ pub record IsOfKind (kind : Kind) (l : ReportLine) : Type 0 where
 pub record IsFound (P : ReportLine → Type 0) (text : List ℕ) (found : ReadLine) (rest : List ℕ) : Type 0 where
   pub line : ReportLine
   pub fits : P line
-  pub says : Says found line
+  pub says : SaysLine found line
   pub is_front : text ≡ full_text line ++ rest
 
 -- a name, and the byte behind it
@@ -47,8 +47,8 @@ abbrev pub behind : {X : Type 0} → List ℕ → (X → List ℕ) → X → Lis
 behind word spelled x = word ++ spelled x
 
 -- cells that a sweep may have
-abbrev pub AreCells : List CellName → Type 0
-AreCells cells = (0 < length cells) × All IsSpelledCell cells
+abbrev pub AreSweepCells : List CellName → Type 0
+AreSweepCells cells = (0 < length cells) × All IsSpelledCell cells
 
 -- the cells of a sweep, and the line feed behind them
 abbrev pub cells_line : List CellName → List ℕ
@@ -57,6 +57,6 @@ cells_line cells = flat_map spaced cells ++ 10 ∷ []
 -- the cells at the front of the text
 pub record HasCells (text cells rest : List ℕ) : Type 0 where
   pub named : List CellName
-  pub fit : AreCells named
+  pub fit : AreSweepCells named
   pub are : cells ≡ flat_map spaced named
   pub is_front : text ≡ cells ++ 10 ∷ rest

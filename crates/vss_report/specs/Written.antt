@@ -12,10 +12,10 @@ use Rattle.derivation_log.specs.Text.{IsInRange}
 use Rattle.derivation_log.specs.declared.step.Refutation.{Refutation}
 use Rattle.vss_lists.specs.Breaks.{HoldsOfEach}
 use Rattle.vss_text.specs.Numbers.{IsShort}
-use Rattle.vss_report.specs.DesignFaults.{IsPlace, HasCells, StatesDesign}
+use Rattle.vss_report.specs.DesignFaults.{IsPlaceNumber, HasCells, StatesDesign}
 use Rattle.vss_report.specs.Lines.{IsSpelledBound}
 use Rattle.vss_report.specs.Outcomes.{report_text}
-use Rattle.vss_report.specs.Refutations.{States}
+use Rattle.vss_report.specs.Refutations.{StatesRefutation}
 use Rattle.vss_report.specs.declared.outcome.Smaller.{Smaller}
 use Rattle.vss_report.specs.declared.outcome.Smaller.TheVariants as smaller
 use Rattle.vss_report.specs.declared.outcome.Outcome.{Outcome}
@@ -44,7 +44,7 @@ pub record IsReportRun (labels : Labels) (r : TrainRun) : Type 0 where
 -- the borders are places of the scene and rise, and each train has a run
 pub record IsReportDesign (labels : Labels) (borders : List CandidateId) (plan : Plan) : Type 0 where
   pub few : IsShort (length borders)
-  pub places : All (IsPlace labels) borders
+  pub places : All (IsPlaceNumber labels) borders
   pub rising : HoldsOfEach (RisesAt borders) borders
   pub one_run_each : length plan.runs ≡ length labels.trains
   pub runs : All (IsReportRun labels) plan.runs
@@ -91,7 +91,7 @@ HasRefutation (outcome.Spent n best) r = ⊥
 -- the report states the refutation, from some line on
 pub record IsStated (bytes : List ℕ) (r : Refutation) : Type 0 where
   pub number : ℕ
-  pub states : States bytes r number
+  pub states : StatesRefutation bytes r number
 
 -- the report of the outcome states the refutation that the outcome has
 abbrev pub IsRefutationReadBack : Labels → Outcome → Type 0

@@ -1,7 +1,7 @@
 //! The cells of a sweep.
 ghost use Rattle.std.specs.Prelude.{◌≡◌, ◌++◌, ◌∷◌, IfOk, IfErr};
 ghost use Rattle.vss_report.specs.Lines.{cell_text, IsSpelledCell};
-ghost use Rattle.vss_report.specs.Readings.{AreCells, cells_line, HasCells};
+ghost use Rattle.vss_report.specs.Readings.{AreSweepCells, cells_line, HasCells};
 ghost use Rattle.vss_text.specs.Reading.{Misses};
 
 use crate::parts::name;
@@ -46,7 +46,7 @@ pub(crate) fn cell(text: &[u8]) -> Result<(NamedCell<'_>, &[u8]), Miss>
 /// The cells that end a line, a blank before each, and what follows the line. There is at least one.
 pub(crate) fn test_cells(text: &[u8]) -> Result<(&[u8], &[u8]), Miss>
     ensures found { IfOk result (λ found. HasCells text.now found.0.now found.1.now) }
-    ensures missed { IfErr result (Misses AreCells cells_line text.now) }
+    ensures missed { IfErr result (Misses AreSweepCells cells_line text.now) }
 {
     let mut rest = text;
     while begins_with(rest, b' ') {

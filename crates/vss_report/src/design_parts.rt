@@ -29,8 +29,8 @@ impl DesignParts {
     ghost use Rattle.vss_report.specs.Found.{name_of_place, IsCellsText, IsTextOfCells};
     ghost use Rattle.vss_report.specs.Gathered.{IsGood};
     ghost use Rattle.vss_report.specs.Lines.{ReportLine, CellName, border, run, sweep};
-    ghost use Rattle.vss_report.specs.Readings.{Says};
-    ghost use Rattle.vss_report.specs.Taken.{AreTaken, Takes, Refuses};
+    ghost use Rattle.vss_report.specs.Readings.{SaysLine};
+    ghost use Rattle.vss_report.specs.Taken.{AreTaken, TakesLine, RefusesLine};
 
     /// Nothing yet; takes no memory.
     pub(crate) fn new(alloc: Global) -> DesignParts
@@ -56,8 +56,8 @@ impl DesignParts {
         number: u32,
     ) -> Result<(), ReportFault>
         requires { IsGood line.now }
-        ensures ok { (l : ReportLine) → Says line.now l → OnOk result (Takes scene.now.labels self.old self.new l) }
-        ensures err { (l : ReportLine) → Says line.now l → IfErr result (Refuses scene.now.labels self.old l number) }
+        ensures ok { (l : ReportLine) → SaysLine line.now l → OnOk result (TakesLine scene.now.labels self.old self.new l) }
+        ensures err { (l : ReportLine) → SaysLine line.now l → IfErr result (RefusesLine scene.now.labels self.old l number) }
     {
         match *line {
             ReadLine::Count(_) => {
@@ -86,8 +86,8 @@ impl DesignParts {
         name: &NamedPlace<'_>,
         number: u32,
     ) -> Result<(), ReportFault>
-        ensures ok { OnOk result (Takes scene.now.labels self.old self.new (border (name_of_place name.now))) }
-        ensures err { IfErr result (Refuses scene.now.labels self.old (border (name_of_place name.now)) number) }
+        ensures ok { OnOk result (TakesLine scene.now.labels self.old self.new (border (name_of_place name.now))) }
+        ensures err { IfErr result (RefusesLine scene.now.labels self.old (border (name_of_place name.now)) number) }
     {
         match find_place(scene, self.from, name) {
             Some(candidate) => match self.borders.push(candidate) {
@@ -113,8 +113,8 @@ impl DesignParts {
         start: u32,
         number: u32,
     ) -> Result<(), ReportFault>
-        ensures ok { OnOk result (Takes scene.now.labels self.old self.new (run train.now start)) }
-        ensures err { IfErr result (Refuses scene.now.labels self.old (run train.now start) number) }
+        ensures ok { OnOk result (TakesLine scene.now.labels self.old self.new (run train.now start)) }
+        ensures err { IfErr result (RefusesLine scene.now.labels self.old (run train.now start) number) }
     {
         let trains = scene.labels.trains.as_slice();
         if is_due(&scene.labels, self.runs.as_slice().len(), train) {
@@ -141,7 +141,7 @@ impl DesignParts {
 
     /// Begins the run of the next train.
     fn begin_run(&mut self, alloc: Global, start: u32) -> Result<(), AllocError>
-        ensures { OnOk result ((labels : Labels) (train : List ℕ) → slice_get labels.trains (length self.old.runs.items) ≡ Some train → Takes labels self.old self.new (run train start)) }
+        ensures { OnOk result ((labels : Labels) (train : List ℕ) → slice_get labels.trains (length self.old.runs.items) ≡ Some train → TakesLine labels self.old self.new (run train start)) }
     {
         let sweeps = Items::new(alloc);
         self.runs.push(TrainRun { start, sweeps })?;
@@ -157,8 +157,8 @@ impl DesignParts {
         number: u32,
     ) -> Result<(), ReportFault>
         requires { IsCellsText cells.now }
-        ensures ok { (named : List CellName) → IsTextOfCells cells.now named → OnOk result (Takes scene.now.labels self.old self.new (sweep named)) }
-        ensures err { (named : List CellName) → IsTextOfCells cells.now named → IfErr result (Refuses scene.now.labels self.old (sweep named) number) }
+        ensures ok { (named : List CellName) → IsTextOfCells cells.now named → OnOk result (TakesLine scene.now.labels self.old self.new (sweep named)) }
+        ensures err { (named : List CellName) → IsTextOfCells cells.now named → IfErr result (RefusesLine scene.now.labels self.old (sweep named) number) }
     {
         match read_sweep(alloc, scene, &mut self.finder, cells) {
             Ok(Some(sweep)) => match add_sweep(&mut self.runs, sweep) {

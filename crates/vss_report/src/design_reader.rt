@@ -2,7 +2,7 @@
 ghost use Rattle.std.specs.Prelude.{◌≡◌, ◌≤◌, ◌^◌, All, length, IfOk, IfErr};
 ghost use Rattle.cell_net.specs.Borders.{IsBorderSet};
 ghost use Rattle.vss_report.specs.DesignFaults.{IsDesignReading};
-ghost use Rattle.vss_report.specs.Taken.{IsWhole, IsLineFault};
+ghost use Rattle.vss_report.specs.Taken.{IsTakenWhole, IsLineFault};
 
 use crate::design_parts::DesignParts;
 use crate::fault::ReportFault;
@@ -46,7 +46,7 @@ pub fn read_design(
 /// Takes the lines of the report, all of them.
 fn take_lines(alloc: Global, bytes: &[u8], scene: &Scene) -> Result<DesignParts, ReportFault>
     requires { length bytes.now ≤ 2 ^ 30 }
-    ensures parts { IfOk result (IsWhole scene.now.labels bytes.now) }
+    ensures parts { IfOk result (IsTakenWhole scene.now.labels bytes.now) }
     ensures fault { IfErr result (IsLineFault scene.now.labels bytes.now) }
 {
     let mut parts = DesignParts::new(alloc);

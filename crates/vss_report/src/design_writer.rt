@@ -5,7 +5,7 @@ ghost use Rattle.vss_io.specs.Line.{flat, joined, line};
 ghost use Rattle.vss_io.specs.Written.{Prints, PrintsAllBut};
 ghost use Rattle.vss_report.specs.Designs.{lines_of_run, lines_of_runs, sweep_line};
 ghost use Rattle.vss_report.specs.Found.{name_of_cell};
-ghost use Rattle.vss_report.specs.Lines.{full_text, text_of, spaced, sign, border, sweep};
+ghost use Rattle.vss_report.specs.Lines.{full_text, text_of_lines, spaced, sign, border, sweep};
 ghost use Rattle.vss_report.specs.Names.{cell_named, labelled_place};
 ghost use Rattle.vss_report.specs.Outcomes.{border_line, lines_of_design};
 
@@ -22,7 +22,7 @@ pub(crate) fn write_design<K: Sink>(
     plan: &Plan,
     out: &mut K,
 ) -> Result<(), SinkFault>
-    ensures { Prints (K.shown out.old) (K.shown out.new) (text_of (lines_of_design labels.now borders.now plan.now)) result }
+    ensures { Prints (K.shown out.old) (K.shown out.new) (text_of_lines (lines_of_design labels.now borders.now plan.now)) result }
 {
     write_count(borders.len(), out)?;
     write_borders(labels, borders, out)?;
@@ -40,7 +40,7 @@ fn write_borders<K: Sink>(
     borders: &[CandidateId],
     out: &mut K,
 ) -> Result<(), SinkFault>
-    ensures { Prints (K.shown out.old) (K.shown out.new) (text_of (map (border_line labels.now) borders.now)) result }
+    ensures { Prints (K.shown out.old) (K.shown out.new) (text_of_lines (map (border_line labels.now) borders.now)) result }
 {
     for border in borders {
         write_border(labels, border, out)?;
@@ -79,7 +79,7 @@ fn write_cut<K: Sink>(track: &[u8], at_m: u64, out: &mut K) -> Result<(), SinkFa
 }
 
 fn write_runs<K: Sink>(labels: &Labels, runs: &[TrainRun], out: &mut K) -> Result<(), SinkFault>
-    ensures { Prints (K.shown out.old) (K.shown out.new) (text_of (lines_of_runs labels.now 0 runs.now)) result }
+    ensures { Prints (K.shown out.old) (K.shown out.new) (text_of_lines (lines_of_runs labels.now 0 runs.now)) result }
 {
     for place in 0..runs.len() {
         write_run(labels, place, &runs[place], out)?;
@@ -93,7 +93,7 @@ fn write_run<K: Sink>(
     run: &TrainRun,
     out: &mut K,
 ) -> Result<(), SinkFault>
-    ensures { Prints (K.shown out.old) (K.shown out.new) (text_of (lines_of_run labels.now train run.now)) result }
+    ensures { Prints (K.shown out.old) (K.shown out.new) (text_of_lines (lines_of_run labels.now train run.now)) result }
 {
     write_start(name_at(labels, train), run.start, out)?;
     write_sweeps(labels, run.sweeps.as_slice(), out)
@@ -109,7 +109,7 @@ fn write_start<K: Sink>(train: &[u8], start: u32, out: &mut K) -> Result<(), Sin
 }
 
 fn write_sweeps<K: Sink>(labels: &Labels, sweeps: &[Sweep], out: &mut K) -> Result<(), SinkFault>
-    ensures { Prints (K.shown out.old) (K.shown out.new) (text_of (map (sweep_line labels.now) sweeps.now)) result }
+    ensures { Prints (K.shown out.old) (K.shown out.new) (text_of_lines (map (sweep_line labels.now) sweeps.now)) result }
 {
     for sweep in sweeps {
         write_sweep(labels, sweep.cells.as_slice(), out)?;

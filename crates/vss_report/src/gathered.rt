@@ -14,8 +14,8 @@ impl Gathered {
     ghost use Rattle.std.specs.Prelude.{◌≡◌, ◌+◌, ◌<◌, ◌++◌, ◌∷◌, [], List, length, OnOk, OnErr};
     ghost use Rattle.vss_report.specs.Gathered.{AreGathered, IsGood};
     ghost use Rattle.vss_report.specs.Lines.{ReportLine, IsSpelled};
-    ghost use Rattle.vss_report.specs.Readings.{Says};
-    ghost use Rattle.vss_report.specs.Refutations.{steps_in};
+    ghost use Rattle.vss_report.specs.Readings.{SaysLine};
+    ghost use Rattle.vss_report.specs.Refutations.{steps_of_lines};
 
     /// Nothing yet; takes no memory.
     pub(crate) fn new(alloc: Global) -> Gathered
@@ -35,8 +35,8 @@ impl Gathered {
         number: u32,
     ) -> Result<(), AllocError>
         requires { IsGood line.now }
-        ensures ok { OnOk result ((lines : List ReportLine) (l : ReportLine) → AreGathered lines self.old → IsSpelled l → Says line.now l → number ≡ length lines + 1 → AreGathered (lines ++ l ∷ []) self.new) }
-        ensures err { OnErr result ((lines : List ReportLine) (l : ReportLine) → Says line.now l → 0 < length (steps_in (lines ++ l ∷ []))) }
+        ensures ok { OnOk result ((lines : List ReportLine) (l : ReportLine) → AreGathered lines self.old → IsSpelled l → SaysLine line.now l → number ≡ length lines + 1 → AreGathered (lines ++ l ∷ []) self.new) }
+        ensures err { OnErr result ((lines : List ReportLine) (l : ReportLine) → SaysLine line.now l → 0 < length (steps_of_lines (lines ++ l ∷ []))) }
     {
         match line {
             ReadLine::Refutes(bound) => self.bound = Some((*bound, number)),

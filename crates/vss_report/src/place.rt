@@ -2,7 +2,7 @@
 ghost use Rattle.std.specs.Prelude.{◌≡◌, ◌↔◌, IsTrue};
 ghost use Rattle.vss_report.specs.Lines.{ReportLine};
 ghost use Rattle.vss_report.specs.Places.{behind_runs, kinds_at, is_done, left_at, place_after};
-ghost use Rattle.vss_report.specs.Readings.{Says};
+ghost use Rattle.vss_report.specs.Readings.{SaysLine};
 
 use crate::kind::Kind;
 use crate::read_line::ReadLine;
@@ -79,7 +79,7 @@ impl Place {
 
     /// The place behind a line that may stand here.
     pub(crate) fn after(&self, line: &ReadLine<'_>) -> Place
-        ensures { (l : ReportLine) → Says line.now l → result ≡ place_after self.now l }
+        ensures { (l : ReportLine) → SaysLine line.now l → result ≡ place_after self.now l }
     {
         let done = self.is_done();
         match line {

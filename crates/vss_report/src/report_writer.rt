@@ -2,7 +2,7 @@
 ghost use Rattle.std.specs.Prelude.{◌++◌, ◌∷◌, [], decimal, map};
 ghost use Rattle.vss_io.specs.Line.{flat, line};
 ghost use Rattle.vss_io.specs.Written.{Prints};
-ghost use Rattle.vss_report.specs.Lines.{text_of, verdict_done, verdict_impossible, verdict_spent, conflicts, refutes, step};
+ghost use Rattle.vss_report.specs.Lines.{text_of_lines, verdict_done, verdict_impossible, verdict_spent, conflicts, refutes, step};
 ghost use Rattle.vss_report.specs.Outcomes.{lines_of_refutation, lines_of_smaller, lines_of_best, lines_of_verdict, lines_of_design, report_text};
 
 use crate::design_writer::write_design;
@@ -35,7 +35,7 @@ pub fn write_outcome<K: Sink>(
 
 /// Puts the verdict and all that belongs to it.
 fn write_verdict<K: Sink>(labels: &Labels, outcome: &Outcome, out: &mut K) -> Result<(), SinkFault>
-    ensures { Prints (K.shown out.old) (K.shown out.new) (text_of (lines_of_verdict labels.now outcome.now)) result }
+    ensures { Prints (K.shown out.old) (K.shown out.new) (text_of_lines (lines_of_verdict labels.now outcome.now)) result }
 {
     match outcome {
         Outcome::Done(design) => write_done(labels, design, out),
@@ -45,7 +45,7 @@ fn write_verdict<K: Sink>(labels: &Labels, outcome: &Outcome, out: &mut K) -> Re
 }
 
 fn write_done<K: Sink>(labels: &Labels, design: &Design, out: &mut K) -> Result<(), SinkFault>
-    ensures { Prints (K.shown out.old) (K.shown out.new) (text_of (verdict_done ∷ (lines_of_design labels.now design.now.layout design.now.plan ++ lines_of_smaller design.now.smaller))) result }
+    ensures { Prints (K.shown out.old) (K.shown out.new) (text_of_lines (verdict_done ∷ (lines_of_design labels.now design.now.layout design.now.plan ++ lines_of_smaller design.now.smaller))) result }
 {
     print_line(&[b"verdict done"], out)?;
     write_design(labels, design.layout.borders(), &design.plan, out)?;
@@ -53,7 +53,7 @@ fn write_done<K: Sink>(labels: &Labels, design: &Design, out: &mut K) -> Result<
 }
 
 fn write_impossible<K: Sink>(refutation: &Refutation, out: &mut K) -> Result<(), SinkFault>
-    ensures { Prints (K.shown out.old) (K.shown out.new) (text_of (verdict_impossible ∷ lines_of_refutation refutation.now)) result }
+    ensures { Prints (K.shown out.old) (K.shown out.new) (text_of_lines (verdict_impossible ∷ lines_of_refutation refutation.now)) result }
 {
     print_line(&[b"verdict impossible"], out)?;
     write_refutation(refutation, out)
@@ -65,7 +65,7 @@ fn write_spent<K: Sink>(
     best: &Option<(Layout, Plan)>,
     out: &mut K,
 ) -> Result<(), SinkFault>
-    ensures { Prints (K.shown out.old) (K.shown out.new) (text_of (verdict_spent ∷ (conflicts count ∷ lines_of_best labels.now best.now))) result }
+    ensures { Prints (K.shown out.old) (K.shown out.new) (text_of_lines (verdict_spent ∷ (conflicts count ∷ lines_of_best labels.now best.now))) result }
 {
     print_line(&[b"verdict spent"], out)?;
     write_numbered(b"conflicts ", count, out)?;
@@ -77,7 +77,7 @@ fn write_best<K: Sink>(
     best: &Option<(Layout, Plan)>,
     out: &mut K,
 ) -> Result<(), SinkFault>
-    ensures { Prints (K.shown out.old) (K.shown out.new) (text_of (lines_of_best labels.now best.now)) result }
+    ensures { Prints (K.shown out.old) (K.shown out.new) (text_of_lines (lines_of_best labels.now best.now)) result }
 {
     match best {
         Some((layout, plan)) => write_design(labels, layout.borders(), plan, out),
@@ -86,7 +86,7 @@ fn write_best<K: Sink>(
 }
 
 fn write_smaller<K: Sink>(smaller: &Smaller, out: &mut K) -> Result<(), SinkFault>
-    ensures { Prints (K.shown out.old) (K.shown out.new) (text_of (lines_of_smaller smaller.now)) result }
+    ensures { Prints (K.shown out.old) (K.shown out.new) (text_of_lines (lines_of_smaller smaller.now)) result }
 {
     match smaller {
         Smaller::NotAsked => Ok(()),
@@ -96,14 +96,14 @@ fn write_smaller<K: Sink>(smaller: &Smaller, out: &mut K) -> Result<(), SinkFaul
 }
 
 fn write_refutation<K: Sink>(refutation: &Refutation, out: &mut K) -> Result<(), SinkFault>
-    ensures { Prints (K.shown out.old) (K.shown out.new) (text_of (lines_of_refutation refutation.now)) result }
+    ensures { Prints (K.shown out.old) (K.shown out.new) (text_of_lines (lines_of_refutation refutation.now)) result }
 {
     write_bound(refutation.bound, out)?;
     write_steps(refutation.log.steps.as_slice(), out)
 }
 
 fn write_bound<K: Sink>(bound: Bound, out: &mut K) -> Result<(), SinkFault>
-    ensures { Prints (K.shown out.old) (K.shown out.new) (text_of (refutes bound ∷ [])) result }
+    ensures { Prints (K.shown out.old) (K.shown out.new) (text_of_lines (refutes bound ∷ [])) result }
 {
     match bound {
         Bound::Given => print_line(&[b"refutes given"], out),
@@ -119,7 +119,7 @@ fn write_numbered<K: Sink>(words: &[u8], number: u32, out: &mut K) -> Result<(),
 }
 
 fn write_steps<K: Sink>(steps: &[Step], out: &mut K) -> Result<(), SinkFault>
-    ensures { Prints (K.shown out.old) (K.shown out.new) (text_of (map step steps.now)) result }
+    ensures { Prints (K.shown out.old) (K.shown out.new) (text_of_lines (map step steps.now)) result }
 {
     for step in steps {
         write_step(step, out)?;

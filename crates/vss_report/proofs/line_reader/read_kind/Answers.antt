@@ -5,7 +5,7 @@ use Rattle.std.specs.Borrow.{Bor}
 use Rattle.vss_text.specs.Reading.{Misses, MissesText}
 use Rattle.vss_text.specs.declared.miss.Miss.{Miss}
 use Rattle.vss_report.specs.Lines.{ReportLine, header, verdict_done, verdict_impossible, verdict_spent, best_none, smaller_none, end_line, full_text}
-use Rattle.vss_report.specs.Readings.{IsOfKind, IsFound, Says}
+use Rattle.vss_report.specs.Readings.{IsOfKind, IsFound, SaysLine}
 use Rattle.vss_report.specs.declared.kind.Kind.{Kind}
 use Rattle.vss_report.specs.declared.kind.Kind.TheVariants as kind
 use Rattle.vss_report.specs.declared.read_line.ReadLine.{ReadLine}
@@ -13,9 +13,9 @@ use Rattle.vss_report.specs.declared.read_line.ReadLine.TheVariants as read
 use Rattle.vss_report.proofs.KindLemmas.{header_missed, done_missed, impossible_missed, spent_missed, best_none_missed, smaller_none_missed, end_missed}
 use Rattle.vss_report.proofs.line_reader.read_kind.Goals as goal
 
-fixed_found : (k asked : Kind) (l : ReportLine) (line : ReadLine) (text : List ℕ) (result : Result (ReadLine × Bor (List ℕ)) Miss) → asked ≡ k → IsOfKind k l → Says line l
+fixed_found : (k asked : Kind) (l : ReportLine) (line : ReadLine) (text : List ℕ) (result : Result (ReadLine × Bor (List ℕ)) Miss) → asked ≡ k → IsOfKind k l → SaysLine line l
     → IfOk result (λ found. found.0 ≡ line) → IfOk result (λ found. text ≡ full_text l ++ found.1.now) → IfOk result (λ found. IsFound (IsOfKind asked) text found.0 found.1.now)
-fixed_found k asked l line text (Ok found) is fits says same front = record { line = l; fits = subst (λ a. IsOfKind a l) (sym is) fits; says = subst (λ r. Says r l) (sym same) says; is_front = front }
+fixed_found k asked l line text (Ok found) is fits says same front = record { line = l; fits = subst (λ a. IsOfKind a l) (sym is) fits; says = subst (λ r. SaysLine r l) (sym same) says; is_front = front }
 fixed_found k asked l line text (Err miss) is fits says same front = tt
 
 fixed_missed : (k asked : Kind) (words text : List ℕ) (result : Result (ReadLine × Bor (List ℕ)) Miss) → asked ≡ k → ((miss : Miss) → MissesText words text miss → Misses (IsOfKind k) full_text text miss)

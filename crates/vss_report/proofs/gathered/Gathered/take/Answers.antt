@@ -1,19 +1,19 @@
 -- Why `Gathered::take` does what its contract says.
 use Rattle.std.proofs.Common.{◌<◌, ◌++◌, ◌∷◌, [], List, length, refl}
 use Rattle.vss_report.specs.Lines.{ReportLine}
-use Rattle.vss_report.specs.Readings.{Says}
-use Rattle.vss_report.specs.Refutations.{steps_in}
+use Rattle.vss_report.specs.Readings.{SaysLine}
+use Rattle.vss_report.specs.Refutations.{steps_of_lines}
 use Rattle.vss_report.proofs.RefutationLemmas.{on_err_any, steps_some, gathered_refutes, gathered_step, gathered_other, says_other, other_read}
 use Rattle.vss_report.proofs.gathered.Gathered.take.Goals as goal
 
 pub returns-in_err-step-in-Step-clause-err : goal.returns-in_err-step-in-Step-clause-err
 returns-in_err-step-in-Step-clause-err c =
-    let some : (lines : List ReportLine) (l : ReportLine) → Says c.args.line.now l → 0 < length (steps_in (lines ++ l ∷ [])) = λ lines l says. steps_some c.args.line.now c.in-Step.text lines l c.in-Step.is says in
+    let some : (lines : List ReportLine) (l : ReportLine) → SaysLine c.args.line.now l → 0 < length (steps_of_lines (lines ++ l ∷ [])) = λ lines l says. steps_some c.args.line.now c.in-Step.text lines l c.in-Step.is says in
     on_err_any _ _ some
 
 pub returns-in_err-push-in-Step-clause-err : goal.returns-in_err-push-in-Step-clause-err
 returns-in_err-push-in-Step-clause-err c =
-    let some : (lines : List ReportLine) (l : ReportLine) → Says c.args.line.now l → 0 < length (steps_in (lines ++ l ∷ [])) = λ lines l says. steps_some c.args.line.now c.in-Step.text lines l c.in-Step.is says in
+    let some : (lines : List ReportLine) (l : ReportLine) → SaysLine c.args.line.now l → 0 < length (steps_of_lines (lines ++ l ∷ [])) = λ lines l says. steps_some c.args.line.now c.in-Step.text lines l c.in-Step.is says in
     on_err_any _ _ some
 
 pub returns-in-Refutes-clause-ok : goal.returns-in-Refutes-clause-ok
