@@ -12,32 +12,12 @@ returns-in_err-print_line g c =
 
 pub returns-in_err-write_verdict : goal.returns-in_err-write_verdict
 returns-in_err-write_verdict g c =
-<<<<<<< HEAD:crates/vss_report/proofs/report_writer/write_outcome/Answers.antt
     let verdict = lines_of_verdict c.args.labels.now c.args.outcome.now in
     let so_far = Prints-then _ _ _ (full_text header) (text_of_lines verdict) (text_of_lines (header ∷ verdict)) _ _ c.in_ok-print_line.ensures c.in_err-write_verdict.ensures refl in
     Prints-stopped _ _ (text_of_lines (header ∷ verdict)) (text_of_lines (end_line ∷ [])) _ _ _ so_far (behind_lines (header ∷ verdict) (end_line ∷ [])) c.from_residual-in_err-write_verdict.ensures.0
-||||||| 46e66c4:crates/vss_report/proofs/report_writer/write_report/Answers.antt
-    let verdict = lines_of_verdict c.args.scene.now.labels c.args.outcome.now in
-    let so_far = Prints-then _ _ _ (full_text header) (text_of_lines verdict) (text_of_lines (header ∷ verdict)) _ _ c.in_ok-print_line.ensures c.in_err-write_verdict.ensures refl in
-    Prints-stopped _ _ (text_of_lines (header ∷ verdict)) (text_of_lines (end_line ∷ [])) _ _ _ so_far (behind_lines (header ∷ verdict) (end_line ∷ [])) c.from_residual-in_err-write_verdict.ensures.0
-=======
-    let verdict = lines_of_verdict c.args.scene.now.labels c.args.outcome.now in
-    let so_far = Prints-then _ _ _ (full_text header) (text_of_lines verdict) (text_of_lines (header ∷ verdict)) _ _ c.in_ok-print_line.ensures c.in_err-write_verdict.ensures refl in
-    Prints-stopped _ _ (text_of_lines (header ∷ verdict)) (text_of_lines (end_line ∷ [])) _ _ _ so_far (behind_lines (header ∷ verdict) (end_line ∷ [])) c.from_residual-in_err-write_verdict.ensures.0
->>>>>>> 29a1a316db7570a8330ebc2ae20e4f2d47788399:crates/vss_report/proofs/report_writer/write_report/Answers.antt
 
 pub returns : goal.returns
 returns g c =
-<<<<<<< HEAD:crates/vss_report/proofs/report_writer/write_outcome/Answers.antt
     let verdict = lines_of_verdict c.args.labels.now c.args.outcome.now in
     let so_far = Prints-then _ _ _ (full_text header) (text_of_lines verdict) (text_of_lines (header ∷ verdict)) _ _ c.in_ok-print_line.ensures c.in_ok-write_verdict.ensures refl in
     Prints-then _ _ _ (text_of_lines (header ∷ verdict)) (text_of_lines (end_line ∷ [])) _ _ _ so_far c.print_line-2.ensures (behind_lines (header ∷ verdict) (end_line ∷ []))
-||||||| 46e66c4:crates/vss_report/proofs/report_writer/write_report/Answers.antt
-    let verdict = lines_of_verdict c.args.scene.now.labels c.args.outcome.now in
-    let so_far = Prints-then _ _ _ (full_text header) (text_of_lines verdict) (text_of_lines (header ∷ verdict)) _ _ c.in_ok-print_line.ensures c.in_ok-write_verdict.ensures refl in
-    Prints-then _ _ _ (text_of_lines (header ∷ verdict)) (text_of_lines (end_line ∷ [])) _ _ _ so_far c.print_line-2.ensures (behind_lines (header ∷ verdict) (end_line ∷ []))
-=======
-    let verdict = lines_of_verdict c.args.scene.now.labels c.args.outcome.now in
-    let so_far = Prints-then _ _ _ (full_text header) (text_of_lines verdict) (text_of_lines (header ∷ verdict)) _ _ c.in_ok-print_line.ensures c.in_ok-write_verdict.ensures refl in
-    Prints-then _ _ _ (text_of_lines (header ∷ verdict)) (text_of_lines (end_line ∷ [])) _ _ _ so_far c.print_line-2.ensures (behind_lines (header ∷ verdict) (end_line ∷ []))
->>>>>>> 29a1a316db7570a8330ebc2ae20e4f2d47788399:crates/vss_report/proofs/report_writer/write_report/Answers.antt
