@@ -40,11 +40,7 @@ pub fn found<S: Solver>(
 }
 
 /// How the search for the fewest borders of a made scene ends.
-pub fn tried<S: Solver>(
-    alloc: Global,
-    scene: Scene,
-    budget: u32,
-) -> Result<Answer, Stop<Refusal>>
+pub fn tried<S: Solver>(alloc: Global, scene: Scene, budget: u32) -> Result<Answer, Stop<Refusal>>
     requires { IsBudget budget }
     ensures { Ends (IsRightAnswer (trying (setting_of scene) budget)) (λ answer. answer) result }
 {

@@ -8,7 +8,11 @@ use vss_io::{Sink, SinkFault};
 use vss_report::Outcome;
 
 /// DRAFT
-pub fn print_summary<K: Sink>(inst: &Instance, outcome: &Outcome, out: &mut K) -> Result<(), SinkFault>
+pub fn print_summary<K: Sink>(
+    inst: &Instance,
+    outcome: &Outcome,
+    out: &mut K,
+) -> Result<(), SinkFault>
     ensures { Prints (K.shown out.old) (K.shown out.new) (summary_text inst.now outcome.now) result }
 {
     let _count = inst.train_count();

@@ -29,7 +29,9 @@ static LOGS: [(&str, &str, &str, u8); 14] = [
 #[test]
 fn logs_are_checked(rt: HostRuntime) -> Result<(), Fail> {
     for (bound, log, line, status) in &LOGS {
-        let report = format!(in rt.alloc(); "vssplan report 1\nverdict impossible\nrefutes {bound}\n{log}end\n")?;
+        let report = format!(in rt.alloc();
+            "vssplan report 1\nverdict impossible\nrefutes {bound}\n{log}end\n"
+        )?;
         let mut shelf = shelf_of(rt.alloc(), LINE, LONG, report.as_str())?;
         expect_run(
             &rt,

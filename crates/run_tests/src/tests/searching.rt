@@ -210,14 +210,13 @@ fn expect_read_back(rt: &impl Abort, alloc: Global, row: &ReadRow) -> Result<(),
     let mut shelf = shelf_of(alloc, network.as_str(), timetable.as_str(), "")?;
     let (report, status) = written_by(alloc, row.words, &mut shelf)?;
     let begins = row.begins;
-    assert!(rt; report.as_str().starts_with(begins), "wanted {begins} for {}", row.words);
+    assert!(rt;
+        report.as_str().starts_with(begins),
+        "wanted {begins} for {}",
+        row.words
+    );
     assert_eq!(rt; status, row.status, "for {}", row.words);
-    let mut shelf = shelf_of(
-        alloc,
-        network.as_str(),
-        timetable.as_str(),
-        report.as_str(),
-    )?;
+    let mut shelf = shelf_of(alloc, network.as_str(), timetable.as_str(), report.as_str())?;
     let (line, status) = row.judged;
     expect_run(rt, alloc, "judge net times plan", &mut shelf, line, status)?;
     let (line, status) = row.checked;
