@@ -9,6 +9,7 @@ use Rattle.net_reader.specs.Readings.{IsReading}
 use Rattle.net_reader.specs.declared.refusal.ReadRefusal.{ReadRefusal}
 use Rattle.net_reader.specs.declared.refusal.ReadRefusal.TheVariants as net_refusal
 use Rattle.timetable.specs.Readings.{IsTimeReading}
+use Rattle.timetable.specs.Timetables.{IsTimetable}
 use Rattle.timetable.specs.declared.parts.Timetable.{Timetable}
 use Rattle.timetable.specs.declared.refusal.TimeRefusal.{TimeRefusal}
 use Rattle.timetable.specs.declared.refusal.TimeRefusal.TheVariants as time_refusal
@@ -72,6 +73,7 @@ pub record ReadsTimetable (net : NetParts) (bytes : List ℕ) (end : Result Time
 -- network and timetable are cut into a scene
 pub record CutsScene (net : NetParts) (timetable : Timetable) (end : Result Setting (Stop Refusal)) : Type 0 where
   pub is_net : IsNet net
+  pub is_timetable : IsTimetable net timetable
   pub hands_on : HandsOn (IsCut net timetable) setting_of grid_stop end
 
 -- the job to judge a design
