@@ -6,3 +6,4 @@ pub mod LowerLemmas
 pub mod MarkLemmas
 pub mod PendingLemmas
 pub mod WorkLemmas
+mod CallLemmas

@@ -17,10 +17,11 @@ use Rattle.search_trail.specs.Trails.{TrailParts, IsTrail}
 use Rattle.sat_core.proofs.OpenLaws.{true_is_not_false}
 use Rattle.search_trail.proofs.ReasonLaws.{apart-eqb}
 use Rattle.conflict_learn.specs.Marks.{AreAmong}
-use Rattle.conflict_learn.specs.Working.{IsMarked, IsWorking, IsPlace, IsListed, IsTouchedAt, IsImplied, MarksOf, pending}
+use Rattle.conflict_learn.specs.Working.{IsMarked, IsWorking, IsPlaceToResolve, IsListed, IsTouchedAt, IsImplied, MarksOf, pending}
 use Rattle.conflict_learn.proofs.HintOrder.{one_place}
 use Rattle.conflict_learn.proofs.PendingLemmas.{index_of, pending-yes}
-use Rattle.conflict_learn.proofs.WorkLemmas.{no_entry, work_pass, work_resolve, kept_low, clause_over, here_pending}
+use Rattle.conflict_learn.proofs.WorkLemmas.{work_pass, work_resolve, here_pending}
+use Rattle.conflict_learn.proofs.CallLemmas.{no_entry, kept_low, clause_over}
 
 pub pending_some : (entries : List Entry) (marks : List Bool) (level place : ℕ) → 0 < pending entries marks level place → 0 < place
 pending_some entries marks level zero some = absurd (omega arith)
@@ -76,13 +77,13 @@ passes live t lower place marks open_count level cut hints low within unmarked w
     passes_by live t lower (place - lower) marks open_count level cut hints (omega arith) (λ k from below. unmarked k from (omega arith)) (subst (λ n. IsWorking live t n marks open_count level cut hints) (sym whole) work)
 
 -- ---- a marked literal below the present level
-pub lower_apart : (live : List NumberedClause) (t : TrailParts) (place : ℕ) (lit : Lit) (marks : List Bool) (open_count level : ℕ) (cut : List Lit) (hints : List ClauseId) → IsPlace live t place lit → get_or marks (lit.var.0 - 1) false ≡ true → open_count ≡ 0 → IsWorking live t (place + 1) marks open_count level cut hints → (get_or t.entries place no_entry).level ≢ t.present
+pub lower_apart : (live : List NumberedClause) (t : TrailParts) (place : ℕ) (lit : Lit) (marks : List Bool) (open_count level : ℕ) (cut : List Lit) (hints : List ClauseId) → IsPlaceToResolve live t place lit → get_or marks (lit.var.0 - 1) false ≡ true → open_count ≡ 0 → IsWorking live t (place + 1) marks open_count level cut hints → (get_or t.entries place no_entry).level ≢ t.present
 lower_apart live t place lit marks open_count level cut hints at marked none work here =
     let is : get_or marks (index_of (get_or t.entries place no_entry)) false ≡ true = ap (λ (l : Lit). get_or marks (l.var.0 - 1) false) (at.here no_entry) ∙ marked in
     let more : pending t.entries marks t.present (place + 1) ≡ pending t.entries marks t.present place + 1 = pending-yes t.entries marks t.present place no_entry at.within (here_pending marks t.present (get_or t.entries place no_entry) is here) in
     omega (arith, work.counted)
 
-pub implied_place : (live : List NumberedClause) (t : TrailParts) (place : ℕ) (lit : Lit) (marks : List Bool) (open_count level : ℕ) (cut : List Lit) (hints hints' : List ClauseId) (id : ClauseId) → IsPlace live t place lit → get_or marks (lit.var.0 - 1) false ≡ true → open_count ≡ 0 → All (λ e. e.lit.var.0 ≡ lit.var.0 → e.reason ≡ Some id) t.entries → IsImplied live marks id → hints' ≡ hints ++ id ∷ [] → IsWorking live t (place + 1) marks open_count level cut hints → IsWorking live t place marks open_count level cut hints'
+pub implied_place : (live : List NumberedClause) (t : TrailParts) (place : ℕ) (lit : Lit) (marks : List Bool) (open_count level : ℕ) (cut : List Lit) (hints hints' : List ClauseId) (id : ClauseId) → IsPlaceToResolve live t place lit → get_or marks (lit.var.0 - 1) false ≡ true → open_count ≡ 0 → All (λ e. e.lit.var.0 ≡ lit.var.0 → e.reason ≡ Some id) t.entries → IsImplied live marks id → hints' ≡ hints ++ id ∷ [] → IsWorking live t (place + 1) marks open_count level cut hints → IsWorking live t place marks open_count level cut hints'
 implied_place live t place lit marks open_count level cut hints hints' id at marked none reason implied more work =
     let apart = lower_apart live t place lit marks open_count level cut hints at marked none work in
     let variable : (get_or t.entries place no_entry).lit.var.0 ≡ lit.var.0 = ap (λ (l : Lit). l.var.0) (at.here no_entry) in
@@ -92,7 +93,7 @@ implied_place live t place lit marks open_count level cut hints hints' id at mar
     let same : open_count - 0 + 0 ≡ open_count = omega arith in
     subst (IsWorking live t place marks open_count level cut) (sym more) (subst (λ n. IsWorking live t place marks n level cut (hints ++ id ∷ [])) same step.1)
 
-pub kept_place : (live : List NumberedClause) (t : TrailParts) (place : ℕ) (lit : Lit) (marks : List Bool) (open_count level level' at_level : ℕ) (cut cut' : List Lit) (hints : List ClauseId) → IsPlace live t place lit → get_or marks (lit.var.0 - 1) false ≡ true → open_count ≡ 0 → All (λ e. e.lit.var.0 ≡ lit.var.0 → e.level ≡ at_level) t.entries → level' ≡ max level at_level → cut' ≡ cut ++ negated lit ∷ [] → IsWorking live t (place + 1) marks open_count level cut hints → IsWorking live t place marks open_count level' cut' hints
+pub kept_place : (live : List NumberedClause) (t : TrailParts) (place : ℕ) (lit : Lit) (marks : List Bool) (open_count level level' at_level : ℕ) (cut cut' : List Lit) (hints : List ClauseId) → IsPlaceToResolve live t place lit → get_or marks (lit.var.0 - 1) false ≡ true → open_count ≡ 0 → All (λ e. e.lit.var.0 ≡ lit.var.0 → e.level ≡ at_level) t.entries → level' ≡ max level at_level → cut' ≡ cut ++ negated lit ∷ [] → IsWorking live t (place + 1) marks open_count level cut hints → IsWorking live t place marks open_count level' cut' hints
 kept_place live t place lit marks open_count level level' at_level cut cut' hints at marked none levels level_is cut_is work =
     let apart = lower_apart live t place lit marks open_count level cut hints at marked none work in
     let variable : (get_or t.entries place no_entry).lit.var.0 ≡ lit.var.0 = ap (λ (l : Lit). l.var.0) (at.here no_entry) in

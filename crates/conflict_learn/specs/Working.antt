@@ -43,7 +43,7 @@ abbrev pub pending : List Entry → List Bool → ℕ → ℕ → ℕ
 pending entries marks level place = count_by (is_pending marks level) (take place entries)
 
 -- before the literal of the present level is found
-pub record IsBefore (t : TrailParts) (open_count level : ℕ) (cut : List Lit) : Type 0 where
+pub record IsBeforePresent (t : TrailParts) (open_count level : ℕ) (cut : List Lit) : Type 0 where
   pub none : cut ≡ []
   pub zero_level : level ≡ 0
   pub more : 0 < t.present → 0 < open_count
@@ -61,7 +61,7 @@ pub record IsWorking (live : List NumberedClause) (t : TrailParts) (place : ℕ)
   pub from : IsCutFrom t.entries place cut
   pub clause : IsClause t.vars cut
   pub counted : open_count ≡ pending t.entries marks t.present place
-  pub phase : IsBefore t open_count level cut ⊎ IsBehind t open_count level cut
+  pub phase : IsBeforePresent t open_count level cut ⊎ IsBehind t open_count level cut
 
 -- the literal's variable stands below the place
 abbrev pub StandsBelow : List Entry → ℕ → Lit → Type 0
@@ -82,15 +82,15 @@ abbrev pub IsResolved : ℕ → ℕ → ClauseId → Entry → Type 0
 IsResolved present open_count id e = (e.reason ≡ Some id) × (0 < present → e.level ≡ present → 1 < open_count)
 
 -- the literal's variable is one of the trail's, and stands on it
-abbrev pub IsAssigned : TrailParts → Lit → Type 0
-IsAssigned t lit = IsOver t.vars lit × Any (λ e. e.lit.var.0 ≡ lit.var.0) t.entries
+abbrev pub IsOnTrail : TrailParts → Lit → Type 0
+IsOnTrail t lit = IsOver t.vars lit × Any (λ e. e.lit.var.0 ≡ lit.var.0) t.entries
 
 -- the state of learning, as the program keeps it
 abbrev pub IsWorkingOn : List NumberedClause → TrailParts → ℕ → List Bool → Work → Type 0
 IsWorkingOn live t place marks w = IsWorking live t place marks w.unresolved w.level w.lits.items w.hints.items
 
 -- a place of the trail, its literal, and what the trail and the clauses offer there
-pub record IsPlace (live : List NumberedClause) (t : TrailParts) (place : ℕ) (lit : Lit) : Type 0 where
+pub record IsPlaceToResolve (live : List NumberedClause) (t : TrailParts) (place : ℕ) (lit : Lit) : Type 0 where
   pub laws : IsTrail t
   pub over : All (λ clause. IsClause t.vars clause.lits) live
   pub reasons : AreReasons live t.entries

@@ -5,7 +5,7 @@ ghost use Rattle.sat_core.specs.declared.literal.ClauseId.{ClauseId};
 ghost use Rattle.search_trail.specs.Reasons.{AreReasons};
 ghost use Rattle.search_trail.specs.declared.entry.Entry.{Entry};
 ghost use Rattle.conflict_learn.specs.Learning.{IsConflict, IsLearnedFrom};
-ghost use Rattle.conflict_learn.specs.Working.{IsWorkingOn, IsKeptBack, IsResolved, IsAssigned, IsPlace};
+ghost use Rattle.conflict_learn.specs.Working.{IsWorkingOn, IsKeptBack, IsResolved, IsOnTrail, IsPlaceToResolve};
 
 use crate::clauses::Clauses;
 use crate::learned::Learned;
@@ -99,7 +99,7 @@ fn settle<C: Clauses>(
     lit: Lit,
     place: u32,
 ) -> Result<(), AllocError>
-    requires place { IsPlace (C.live clauses.now) trail.now place lit }
+    requires place { IsPlaceToResolve (C.live clauses.now) trail.now place lit }
     requires marked { slice_index_or marks.old (lit.var.0 - 1) false ≡ true }
     requires working { IsWorkingOn (C.live clauses.now) trail.now (place + 1) marks.old work.old }
     ensures long { length marks.new ≡ length marks.old }
@@ -114,7 +114,7 @@ fn settle<C: Clauses>(
 /// The reason of a marked literal of the present level, where it is to be resolved: always at level 0, and above it while
 /// other marked ones are left.
 fn resolving(trail: &Trail, lit: Lit, unresolved: u32) -> Option<ClauseId>
-    requires assigned { IsAssigned trail.now lit }
+    requires assigned { IsOnTrail trail.now lit }
     ensures kept { result ≡ None → All (λ e. e.lit.var.0 ≡ lit.var.0 → IsKeptBack trail.now.present unresolved e) trail.now.entries }
     ensures resolved { (id : ClauseId) → result ≡ Some id → All (λ e. e.lit.var.0 ≡ lit.var.0 → IsResolved trail.now.present unresolved id e) trail.now.entries }
 {
@@ -136,7 +136,7 @@ fn resolve<C: Clauses>(
     place: u32,
     id: ClauseId,
 ) -> Result<(), AllocError>
-    requires place { IsPlace (C.live clauses.now) trail.now place lit }
+    requires place { IsPlaceToResolve (C.live clauses.now) trail.now place lit }
     requires marked { slice_index_or marks.old (lit.var.0 - 1) false ≡ true }
     requires resolved { All (λ e. e.lit.var.0 ≡ lit.var.0 → IsResolved trail.now.present work.old.unresolved id e) trail.now.entries }
     requires working { IsWorkingOn (C.live clauses.now) trail.now (place + 1) marks.old work.old }
@@ -163,7 +163,7 @@ fn keep<C: Clauses>(
     lit: Lit,
     place: u32,
 ) -> Result<(), AllocError>
-    requires place { IsPlace (C.live clauses.now) trail.now place lit }
+    requires place { IsPlaceToResolve (C.live clauses.now) trail.now place lit }
     requires marked { slice_index_or marks.now (lit.var.0 - 1) false ≡ true }
     requires kept { All (λ e. e.lit.var.0 ≡ lit.var.0 → IsKeptBack trail.now.present work.old.unresolved e) trail.now.entries }
     requires working { IsWorkingOn (C.live clauses.now) trail.now (place + 1) marks.now work.old }

@@ -5,7 +5,7 @@ ghost use Rattle.std.specs.List.Sorted.{IsNonDecreasing};
 ghost use Rattle.search_trail.specs.Reasons.{AreReasons};
 ghost use Rattle.search_trail.specs.Trails.{IsTrail};
 ghost use Rattle.search_trail.specs.declared.entry.Entry.{Entry};
-ghost use Rattle.conflict_learn.specs.Working.{IsMarked, IsWorkingOn, IsPlace, IsListed, IsTouchedAt, AreAllMarked, IsImplied};
+ghost use Rattle.conflict_learn.specs.Working.{IsMarked, IsWorkingOn, IsPlaceToResolve, IsListed, IsTouchedAt, AreAllMarked, IsImplied};
 
 use crate::clauses::Clauses;
 use crate::learning::Work;
@@ -139,7 +139,7 @@ fn settle_low<C: Clauses>(
     lit: Lit,
     place: u32,
 ) -> Result<(), AllocError>
-    requires place { IsPlace (C.live clauses.now) trail.now place lit }
+    requires place { IsPlaceToResolve (C.live clauses.now) trail.now place lit }
     requires marked { slice_index_or marks.now (lit.var.0 - 1) false ≡ true }
     requires none { work.old.unresolved ≡ 0 }
     requires working { IsWorkingOn (C.live clauses.now) trail.now (place + 1) marks.now work.old }
@@ -162,7 +162,7 @@ fn leave_out<C: Clauses>(
     place: u32,
     id: ClauseId,
 ) -> Result<(), AllocError>
-    requires place { IsPlace (C.live clauses.now) trail.now place lit }
+    requires place { IsPlaceToResolve (C.live clauses.now) trail.now place lit }
     requires marked { slice_index_or marks.now (lit.var.0 - 1) false ≡ true }
     requires reason { All (λ e. e.lit.var.0 ≡ lit.var.0 → e.reason ≡ Some id) trail.now.entries }
     requires implied { IsImplied (C.live clauses.now) marks.now id }
@@ -184,7 +184,7 @@ fn keep_low<C: Clauses>(
     lit: Lit,
     place: u32,
 ) -> Result<(), AllocError>
-    requires place { IsPlace (C.live clauses.now) trail.now place lit }
+    requires place { IsPlaceToResolve (C.live clauses.now) trail.now place lit }
     requires marked { slice_index_or marks.now (lit.var.0 - 1) false ≡ true }
     requires none { work.old.unresolved ≡ 0 }
     requires working { IsWorkingOn (C.live clauses.now) trail.now (place + 1) marks.now work.old }

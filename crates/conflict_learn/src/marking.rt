@@ -3,7 +3,7 @@ ghost use Rattle.std.specs.Prelude.{◌≡◌, ◌+◌, ◌-◌, ◌^◌, ◌<�
 ghost use Rattle.sat_core.specs.declared.literal.Lit.{Lit};
 ghost use Rattle.sat_core.specs.Clauses.{IsOver};
 ghost use Rattle.search_trail.specs.Trails.{TrailParts};
-ghost use Rattle.conflict_learn.specs.Working.{MarksOf, IsAssigned};
+ghost use Rattle.conflict_learn.specs.Working.{MarksOf, IsOnTrail};
 
 use crate::marks::Marks;
 use sat_core::Lit;
@@ -13,7 +13,7 @@ use search_trail::Trail;
 /// the literals.
 pub(crate) fn mark_all(trail: &Trail, marks: &mut Marks, lits: &[Lit]) -> u32
     requires long { length marks.old ≡ trail.now.vars }
-    requires assigned { All (IsAssigned trail.now) lits.now }
+    requires assigned { All (IsOnTrail trail.now) lits.now }
     requires few { length lits.now < 2 ^ 32 }
     ensures { MarksOf trail.now marks.old marks.new lits.now result }
 {
@@ -27,7 +27,7 @@ pub(crate) fn mark_all(trail: &Trail, marks: &mut Marks, lits: &[Lit]) -> u32
 /// Marks the variable of one literal.
 fn mark(trail: &Trail, marks: &mut Marks, lit: Lit) -> u32
     requires long { length marks.old ≡ trail.now.vars }
-    requires assigned { IsAssigned trail.now lit }
+    requires assigned { IsOnTrail trail.now lit }
     ensures marks { MarksOf trail.now marks.old marks.new (lit ∷ []) result }
     ensures one { result ≤ 1 }
 {

@@ -16,8 +16,8 @@ use Rattle.cell_net.specs.declared.cells.CellSpec.{CellSpec}
 use Rattle.cell_net.specs.declared.cells.End.{End}
 use Rattle.cell_net.specs.declared.cells.End.TheVariants.{Low, High}
 use Rattle.cell_net.specs.declared.parts.InstanceParts.{InstanceParts}
-use Rattle.rail_net.specs.Parts.{EndsAt, IsNode, IsOfSection, node_names}
-use Rattle.rail_net.specs.Borders.{IsCandidate, IsJoint}
+use Rattle.rail_net.specs.Parts.{EndsAt, IsNode, IsTrackOfSection, node_names}
+use Rattle.rail_net.specs.Borders.{IsBorderJoint, IsJoint}
 use Rattle.rail_net.specs.Sections.{IsOfOneSection}
 use Rattle.rail_net.specs.Refusals.{IsNet}
 use Rattle.rail_net.specs.Rules.{degree}

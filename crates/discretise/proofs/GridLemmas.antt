@@ -6,8 +6,8 @@ use Rattle.std.proofs.lemmas.Bool.Decides.{eqb_tells}
 use Rattle.std.proofs.lemmas.List.Elements.{Contains-append_cases, Contains-append_left, Contains-append_right, Contains-get_or}
 use Rattle.std.proofs.lemmas.Option.{same_Some, slice_get_within, slice_get-get_or, get_or_from_slice_get}
 use Rattle.vss_lists.specs.Breaks.{HoldsOfEach}
-use Rattle.rail_net.specs.Parts.{EndsAt, IsNode, IsOfSection, IsTrack, node_names, track_names}
-use Rattle.rail_net.specs.Borders.{IsCandidate, IsFree, IsJoint}
+use Rattle.rail_net.specs.Parts.{EndsAt, IsNode, IsTrackOfSection, IsTrack, node_names, track_names}
+use Rattle.rail_net.specs.Borders.{IsBorderJoint, IsFree, IsJoint}
 use Rattle.rail_net.specs.Refusals.{IsNet}
 use Rattle.rail_net.specs.Sections.{IsOfOneSection}
 use Rattle.rail_net.specs.declared.parts.NodeKind.{NodeKind}

@@ -11,7 +11,7 @@ use Rattle.std.proofs.lemmas.Option.{same_Some, slice_get_within, slice_get-get_
 use Rattle.cell_net.specs.declared.ids.CandidateId.{CandidateId}
 use Rattle.cell_net.specs.declared.ids.NodeId.{NodeId}
 use Rattle.rail_net.specs.Parts.{IsNode, IsTrack, node_names, track_names}
-use Rattle.rail_net.specs.Borders.{IsCandidate, IsJoint, IsWithinTrack}
+use Rattle.rail_net.specs.Borders.{IsBorderJoint, IsJoint, IsWithinTrack}
 use Rattle.rail_net.specs.Refusals.{IsNet}
 use Rattle.rail_net.specs.declared.parts.NodeKind.TheVariants.{Joint}
 use Rattle.rail_net.specs.declared.parts.NodePart.{NodePart}
@@ -45,7 +45,7 @@ steps_within metres len step steps is some within positive = (
     go (suc n) same = omega arith
 
 -- a joint with a name is a node
-pub joint_named : (p : NetParts) (name : List ℕ) → IsCandidate p name → (node : ℕ) × IsNode p name node
+pub joint_named : (p : NetParts) (name : List ℕ) → IsBorderJoint p name → (node : ℕ) × IsNode p name node
 unfolding IsJoint
 joint_named p name c =
     let at = place_of p.nodes (record { name = name; kind = Joint }) c.joint in

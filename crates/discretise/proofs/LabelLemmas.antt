@@ -28,7 +28,7 @@ use Rattle.timetable.specs.Timetables.{IsTimetable, IsTrainOf, train_names}
 use Rattle.timetable.specs.declared.parts.TrainPart.{TrainPart}
 use Rattle.timetable.specs.declared.parts.Timetable.{Timetable}
 use Rattle.discretise.specs.Picks.{Picks}
-use Rattle.discretise.specs.Tracks.{AreGridTracks, AreInRange, IsInRange}
+use Rattle.discretise.specs.Tracks.{AreGridTracks, AreInRange, IsTrackInRange}
 use Rattle.discretise.specs.Cells.{cell_labels, label_in, node}
 use Rattle.discretise.specs.Places.{AreFreeJoints, IsFreeJoint, candidates_on, cut_label, cut_labels, cuts_in, joint_label, labels_of_cuts, open_cuts, place_labels}
 use Rattle.discretise.specs.Scenes.{AreNames, AreParts}

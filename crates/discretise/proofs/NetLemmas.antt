@@ -4,8 +4,8 @@ use Rattle.std.specs.Prelude.{All}
 use Rattle.std.specs.List.{Contains}
 use Rattle.std.proofs.lemmas.List.Elements.{All-contains, Contains-get_or}
 use Rattle.std.proofs.lemmas.Option.{same_Some, slice_get_within, slice_get-get_or, get_or_from_slice_get}
-use Rattle.rail_net.specs.Parts.{EndsAt, IsNode, IsOfSection, IsTrack, node_names, track_names}
-use Rattle.rail_net.specs.Borders.{IsCandidate, IsFree, IsJoint}
+use Rattle.rail_net.specs.Parts.{EndsAt, IsNode, IsTrackOfSection, IsTrack, node_names, track_names}
+use Rattle.rail_net.specs.Borders.{IsBorderJoint, IsFree, IsJoint}
 use Rattle.rail_net.specs.Refusals.{IsNet}
 use Rattle.rail_net.specs.Sections.{IsOfOneSection}
 use Rattle.rail_net.specs.declared.parts.NodeKind.{NodeKind}
@@ -17,7 +17,7 @@ use Rattle.rail_net.proofs.ListLaws.{contains_at, map_at, mapped_at, place_of}
 use Rattle.rail_net.proofs.ListingLemmas.{one_section}
 use Rattle.rail_net.proofs.NameLaws.{same_number}
 use Rattle.timetable.specs.declared.parts.Timetable.{Timetable}
-use Rattle.discretise.specs.Tracks.{AreGridTracks, AreInRange, AreLaid, IsGridTrack, IsInRange, no_track}
+use Rattle.discretise.specs.Tracks.{AreGridTracks, AreInRange, AreLaid, IsGridTrack, IsTrackInRange, no_track}
 use Rattle.discretise.specs.Joins.{ends_at, high_end, low_end}
 use Rattle.discretise.specs.Places.{AreFreeEnds, AreOfOneSection, AreOfSection, AreOpenEnds, IsFreeJoint, track_of}
 use Rattle.discretise.specs.declared.tracks.GridTrack.{GridTrack}
@@ -117,7 +117,7 @@ module _ (p : NetParts) (t : Timetable) (gs : List GridTrack) (net : IsNet p) (a
   pub track_is : (n k : ℕ) (e : TrackEnd) (to : IsTrackTo n k e) → track_of gs e ≡ to.g
   track_is n k e to = get_or_from_slice_get gs e.track to.g no_track (subst (λ j. slice_get gs j ≡ Some to.g) (sym to.its) to.track.is_grid)
 
-  pub section_is : (k section : ℕ) (part : TrackPart) (g : GridTrack) → IsTrackAt p t gs k part g → IsOfSection p section k → section ≡ g.section
+  pub section_is : (k section : ℕ) (part : TrackPart) (g : GridTrack) → IsTrackAt p t gs k part g → IsTrackOfSection p section k → section ≡ g.section
   section_is k section part g at of = one_section p section g.section k net.once of at.own.section
 
   -- a node whose tracks are of one section, and all of them virtual, by their ends
@@ -125,7 +125,7 @@ module _ (p : NetParts) (t : Timetable) (gs : List GridTrack) (net : IsNet p) (a
     its_name : IsNode p part.name n
     its_name = map_at (λ (x : NodePart). x.name) p.nodes n part is_part
 
-    of_section : (section : ℕ) → AreOfSection gs section (ends_at gs n) → (k its : ℕ) → EndsAt p part.name k → IsOfSection p its k → its ≡ section
+    of_section : (section : ℕ) → AreOfSection gs section (ends_at gs n) → (k its : ℕ) → EndsAt p part.name k → IsTrackOfSection p its k → its ≡ section
     of_section section each k its at of =
         let one = end_of n part.name its_name k at in
         section_is k its one.1.part one.1.g one.1.track of
@@ -152,7 +152,7 @@ module _ (p : NetParts) (t : Timetable) (gs : List GridTrack) (net : IsNet p) (a
     unfolding IsJoint IsOfOneSection IsFree AreOfOneSection
     is_free free =
         let name : free.name ≡ part.name = one_name n free.name part.name free.is_node its_name in
-        let whole : IsCandidate p part.name = subst (IsCandidate p) name free.candidate in
+        let whole : IsBorderJoint p part.name = subst (IsBorderJoint p) name free.candidate in
         let at = place_of p.nodes (record { name = part.name; kind = Joint }) whole.joint in
         let same : at.0 ≡ n = one_node at.0 n part.name (map_at (λ (x : NodePart). x.name) p.nodes at.0 (record { name = part.name; kind = Joint }) at.1) its_name in
         let first : TrackEnd = get_or (ends_at gs n) 0 no_end in
@@ -183,6 +183,6 @@ pub tracks_of_ends : (nodes : ℕ) (gs : List GridTrack) → AreInRange nodes gs
 tracks_of_ends nodes gs range n k d within =
     let e : TrackEnd = get_or (ends_at gs n) k d in
     let at = end_has gs n e (Contains-get_or (ends_at gs n) k d within) in
-    let its = All-contains (IsInRange nodes (length gs)) gs at.0 range at.1 in
+    let its = All-contains (IsTrackInRange nodes (length gs)) gs at.0 range at.1 in
     let number : at.0.number ≡ e.track = its_number n at.0 e at.2 in
     omega (arith, its.number)

@@ -10,7 +10,7 @@ use Rattle.cell_net.specs.declared.ids.NodeId.{NodeId}
 use Rattle.cell_net.specs.declared.ids.SectionId.{SectionId}
 use Rattle.cell_net.specs.declared.cells.CellSpec.{CellSpec}
 use Rattle.cell_net.specs.declared.parts.InstanceParts.{InstanceParts}
-use Rattle.rail_net.specs.Parts.{EndsAt, IsNode, IsOfSection}
+use Rattle.rail_net.specs.Parts.{EndsAt, IsNode, IsTrackOfSection}
 use Rattle.rail_net.specs.Sections.{Adjoin, IsConnectedSection, IsConnected as AreJoinedTracks}
 use Rattle.rail_net.specs.Refusals.{IsNet}
 use Rattle.rail_net.specs.declared.parts.TrackPart.{TrackPart}
@@ -153,7 +153,7 @@ module _ (p : NetParts) (t : Timetable) (gs : List GridTrack) (i : InstanceParts
     place : ℕ
     within : place < g.count
     is_cell : e ≡ cell (g.first + place)
-    of_section : IsOfSection p section k
+    of_section : IsTrackOfSection p section k
 
   of_track : (section : ℕ) (e : CellId) → IsInSection i section e → IsOfTrack section e
   of_track section e inside =
@@ -168,7 +168,7 @@ module _ (p : NetParts) (t : Timetable) (gs : List GridTrack) (i : InstanceParts
         place = at.place;
         within = at.within;
         is_cell = ap cell at.is_number;
-        of_section = subst (λ n. IsOfSection p n at.k) same its.1.own.section;
+        of_section = subst (λ n. IsTrackOfSection p n at.k) same its.1.own.section;
       }
 
   pub connected : (section : ℕ) → IsConnected i section

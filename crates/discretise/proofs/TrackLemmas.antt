@@ -14,7 +14,7 @@ use Rattle.timetable.specs.declared.parts.Timetable.{Timetable}
 use Rattle.rail_net.specs.declared.parts.NodePart.{NodePart}
 use Rattle.rail_net.specs.Parts.{node_names}
 use Rattle.discretise.specs.Rounding.{HasSteps, cells_of}
-use Rattle.discretise.specs.Tracks.{AreGridTracks, AreInRange, AreLaid, AreSmall, IsGridTrack, IsInRange, IsSmall, cell_total, cut_total}
+use Rattle.discretise.specs.Tracks.{AreGridTracks, AreInRange, AreLaid, AreSmall, IsGridTrack, IsTrackInRange, IsSmall, cell_total, cut_total}
 use Rattle.discretise.specs.declared.tracks.GridTrack.{GridTrack}
 
 -- one more track goes behind the others

@@ -7,7 +7,7 @@ use Rattle.cell_net.specs.declared.ids.CandidateId.{CandidateId}
 use Rattle.cell_net.specs.declared.labels.PlaceLabel.{PlaceLabel}
 use Rattle.cell_net.specs.declared.labels.PlaceLabel.TheVariants as place
 use Rattle.rail_net.specs.Parts.{IsNode, IsTrack, node_names}
-use Rattle.rail_net.specs.Borders.{IsCandidate}
+use Rattle.rail_net.specs.Borders.{IsBorderJoint}
 use Rattle.rail_net.specs.declared.parts.NodeKind.{NodeKind}
 use Rattle.rail_net.specs.declared.parts.NodeKind.TheVariants.{Joint}
 use Rattle.rail_net.specs.declared.parts.BorderPart.{BorderPart}
@@ -24,7 +24,7 @@ use Rattle.discretise.specs.declared.ends.TrackEnd.{TrackEnd}
 pub record IsFreeJoint (p : NetParts) (number : ℕ) : Type 0 where
   pub name : List ℕ
   pub is_node : IsNode p name number
-  pub candidate : IsCandidate p name
+  pub candidate : IsBorderJoint p name
 
 -- the joints where a border may stand, by their numbers
 abbrev pub AreFreeJoints : NetParts → List ℕ → Type 0

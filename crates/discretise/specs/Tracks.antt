@@ -1,7 +1,7 @@
 -- Tracks on the grid: each in numbers, with its cells and inner cuts behind those of the tracks before it.
 use Rattle.std.specs.Prelude.{◌≡◌, ◌<◌, ◌≤◌, ◌+◌, ◌-◌, ◌^◌, ℕ, All, false, List, [], ◌∷◌, length, ⊤, sum_by}
 use Rattle.cell_net.specs.declared.limits.TheConstants.{CELLS}
-use Rattle.rail_net.specs.Parts.{IsNode, IsOfSection}
+use Rattle.rail_net.specs.Parts.{IsNode, IsTrackOfSection}
 use Rattle.rail_net.specs.declared.parts.TrackPart.{TrackPart}
 use Rattle.rail_net.specs.declared.parts.NetParts.{NetParts}
 use Rattle.timetable.specs.declared.parts.Timetable.{Timetable}
@@ -13,7 +13,7 @@ pub record IsGridTrack (p : NetParts) (t : Timetable) (place first_cell first_cu
   pub number : g.number ≡ place
   pub from : IsNode p part.from g.from
   pub to : IsNode p part.to g.to
-  pub section : IsOfSection p g.section place
+  pub section : IsTrackOfSection p g.section place
   pub limit : g.limit ≡ limit_of t part.limit_kmh
   pub is_virtual : g.is_virtual ≡ part.virtual_ok
   pub count : g.count ≡ cells_of t part.length_m
@@ -50,13 +50,13 @@ abbrev pub AreSmall : List GridTrack → Type 0
 AreSmall gs = All IsSmall gs
 
 -- a track's own number and those of its nodes are in their ranges, where there are so many nodes and tracks
-pub record IsInRange (nodes tracks : ℕ) (g : GridTrack) : Type 0 where
+pub record IsTrackInRange (nodes tracks : ℕ) (g : GridTrack) : Type 0 where
   pub number : g.number < tracks
   pub from : g.from < nodes
   pub to : g.to < nodes
 
 abbrev pub AreInRange : ℕ → List GridTrack → Type 0
-AreInRange nodes gs = All (IsInRange nodes (length gs)) gs
+AreInRange nodes gs = All (IsTrackInRange nodes (length gs)) gs
 
 -- what is read where there is no track
 abbrev pub no_track : GridTrack

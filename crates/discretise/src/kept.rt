@@ -2,7 +2,7 @@
 
 ghost use Rattle.std.specs.Prelude.{◌≡◌, ◌<◌, ◌≤◌, ◌+◌, ◌-◌, ◌^◌, ◌++◌, ◌∷◌, [], if◌then◌else◌, ◌↔◌, ℕ, false, true, IsTrue, All, IfOk, OnOk, Some, Contains, length, slice_get, slice_index_or, slice_set};
 ghost use Rattle.vss_lists.specs.Breaks.{HoldsOfEach};
-ghost use Rattle.rail_net.specs.Borders.{IsCandidate, IsWithinTrack, StandsWell};
+ghost use Rattle.rail_net.specs.Borders.{IsBorderJoint, IsWithinTrack, StandsWell};
 ghost use Rattle.rail_net.specs.Parts.{IsNode};
 ghost use Rattle.timetable.specs.Timetables.{IsTimetable};
 ghost use Rattle.discretise.specs.Tracks.{AreGridTracks, AreSmall, cut_total};
@@ -109,7 +109,7 @@ fn node_of_cut(
 }
 
 fn node_of_joint(net: &Net, name: &str) -> u32
-    requires { IsCandidate net.now name.now }
+    requires { IsBorderJoint net.now name.now }
     ensures is { IsNode net.now name.now result }
     ensures within { result < length net.now.nodes }
 {

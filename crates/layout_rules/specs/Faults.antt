@@ -17,5 +17,5 @@ rules_of_cells no_path too_short too_fast p t cells =
     rule too_fast (IsSlowEnough p t cells) ∷ []
 
 -- no track path; or one that is shorter than the train; or a long enough one that is too fast
-abbrev pub IsFaultOf : InstanceParts → TrainSpec → List DirCell → SweepFault → Type 0
-IsFaultOf p t cells = IsFirstBroken (rules_of_cells Path Length Speed p t cells)
+abbrev pub IsSweepFaultOf : InstanceParts → TrainSpec → List DirCell → SweepFault → Type 0
+IsSweepFaultOf p t cells = IsFirstBroken (rules_of_cells Path Length Speed p t cells)

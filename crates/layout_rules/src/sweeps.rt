@@ -3,7 +3,7 @@
 ghost use Rattle.std.specs.Prelude.{◌≡◌, ◌<◌, ◌↔◌, All, IsTrue, MatchOption, Some, length, slice_get};
 ghost use Rattle.cell_net.specs.Runs.{IsSlowEnough, IsSweep, IsWithinLimit};
 ghost use Rattle.cell_net.specs.Space.{IsCell};
-ghost use Rattle.layout_rules.specs.Faults.{IsFaultOf};
+ghost use Rattle.layout_rules.specs.Faults.{IsSweepFaultOf};
 ghost use Rattle.cell_net.specs.declared.trains.TrainSpec.{TrainSpec};
 
 use crate::paths::is_track_path;
@@ -25,13 +25,13 @@ pub enum SweepFault {
 pub fn sweep_fault(inst: &Instance, train: TrainId, sweep: &Sweep) -> Option<SweepFault>
     requires { train.0 < length inst.now.trains }
     ensures { (t : TrainSpec) → slice_get inst.now.trains train.0 ≡ Some t →
-        MatchOption result (IsSweep inst.now t sweep.now.cells) (IsFaultOf inst.now t sweep.now.cells) }
+        MatchOption result (IsSweep inst.now t sweep.now.cells) (IsSweepFaultOf inst.now t sweep.now.cells) }
 {
     fault_of(inst, inst.train(train), sweep.cells.as_slice())
 }
 
 fn fault_of(inst: &Instance, train: &TrainSpec, cells: &[DirCell]) -> Option<SweepFault>
-    ensures { MatchOption result (IsSweep inst.now train.now cells.now) (IsFaultOf inst.now train.now cells.now) }
+    ensures { MatchOption result (IsSweep inst.now train.now cells.now) (IsSweepFaultOf inst.now train.now cells.now) }
 {
     if !is_track_path(inst, cells) {
         return Some(SweepFault::Path);

@@ -4,7 +4,7 @@ use Rattle.std.specs.List.{All}
 use Rattle.std.proofs.lemmas.List.{length-map, get_or-map}
 use Rattle.std.proofs.lemmas.Option.{same_Some, slice_get-get_or, slice_get_within}
 use Rattle.vss_json.proofs.DocumentLaws.{one_missed, one_stated, stated_not_missed}
-use Rattle.vss_json.specs.Documents.{IsNoJson, Misses, States}
+use Rattle.vss_json.specs.Documents.{IsNoJson, MissesShape, States}
 use Rattle.vss_json.specs.declared.fault.ShapeFault.{ShapeFault}
 use Rattle.vss_lists.proofs.OrderLaws.{AreSound, not_kept, one_broken, sound_each}
 use Rattle.vss_lists.specs.Breaks.{HoldsOfEach}
@@ -52,7 +52,7 @@ same_parts = one_stated document
 not_stated : (bytes : List ℕ) (p : NetParts) → IsNoJson bytes → ¬ States document bytes p
 not_stated bytes p none states = none states.value states.is_json
 
-not_missed : (bytes : List ℕ) (fault : ShapeFault Member) → IsNoJson bytes → ¬ Misses document bytes fault
+not_missed : (bytes : List ℕ) (fault : ShapeFault Member) → IsNoJson bytes → ¬ MissesShape document bytes fault
 not_missed bytes fault none misses = none misses.value misses.is_json
 
 -- parts with a bad name are not parts whose names are names

@@ -1,6 +1,6 @@
 -- What a reading of a network document answers.
 use Rattle.std.specs.Prelude.{◌<◌, ℕ, List, [], ◌∷◌, length, Result, Ok, Err}
-use Rattle.vss_json.specs.Documents.{IsNoJson, Misses, States}
+use Rattle.vss_json.specs.Documents.{IsNoJson, MissesShape, States}
 use Rattle.vss_lists.specs.Orders.{OrderRule, AreKept, IsFirstBroken, rule_of_each}
 use Rattle.vss_names.specs.Names.{IsName}
 use Rattle.rail_net.specs.Refusals.{IsNet, net_rules}
@@ -31,7 +31,7 @@ naming_rules p =
 abbrev pub IsReading : List ℕ → Result NetParts ReadRefusal → Type 0
 IsReading bytes (Ok parts) = States document bytes parts × IsNet parts
 IsReading bytes (Err NotJson) = IsNoJson bytes
-IsReading bytes (Err (Shape member item)) = Misses document bytes (at member item)
+IsReading bytes (Err (Shape member item)) = MissesShape document bytes (at member item)
 IsReading bytes (Err (BadName spot)) =
     (parts : NetParts) × States document bytes parts × IsFirstBroken (naming_rules parts) spot
 IsReading bytes (Err (Net kind spot)) =

@@ -9,7 +9,7 @@ use Rattle.cell_net.specs.declared.plans.Sweep.{Sweep}
 use Rattle.cell_net.specs.declared.trains.TrainSpec.{TrainSpec}
 use Rattle.layout_rules.specs.Classes.{AreClasses}
 use Rattle.plan_checker.specs.Clashes.{IsFirstClash}
-use Rattle.plan_checker.specs.ClashSearch.{AreAllApart, AreTrainsApart, IsApartFromLater, IsClash, IsFirstClashAt, IsFirstClashOf, IsSound, Touches}
+use Rattle.plan_checker.specs.ClashSearch.{AreAllApart, AreTrainsApart, IsApartFromLater, IsClash, IsFirstClashAt, IsFirstClashOf, IsGoodTraffic, Touches}
 use Rattle.plan_checker.specs.declared.clash.Clash.{Clash}
 use Rattle.plan_checker.specs.declared.traffic.Traffic.{Traffic}
 use Rattle.plan_checker.proofs.ListSteps.{zipped_lengths, zipped_with}
@@ -67,7 +67,7 @@ first_step t n k before found =
     }
 
 -- all trains are apart at each step of the instance, and no train is there at another
-pub always_apart : (t : Traffic) (n : ℕ) → IsSound t → t.inst.now.steps ≤ n → ((s : ℕ) → s < n → AreAllApart t s) → (step x y : ℕ) → x < y → AreTrainsApart t step x y
+pub always_apart : (t : Traffic) (n : ℕ) → IsGoodTraffic t → t.inst.now.steps ≤ n → ((s : ℕ) → s < n → AreAllApart t s) → (step x y : ℕ) → x < y → AreTrainsApart t step x y
 always_apart t n sound all each step x y later =
     elim (leb_tells n step) [
       | inl past ↦ apart_without_first t step x y
@@ -81,7 +81,7 @@ run_of_train : (t : Traffic) → AllZip (IsRun t.inst.now) t.inst.now.trains t.r
 run_of_train t zipped train step w has = zipped_with (IsRun t.inst.now) t.inst.now.trains t.runs.now train has.run zipped has.is_run
 
 pub is_sound : (t : Traffic) → IsInstance t.inst.now → AreClasses t.inst.now t.layout.now t.classes.now →
-    AllZip (IsRun t.inst.now) t.inst.now.trains t.runs.now → IsSound t
+    AllZip (IsRun t.inst.now) t.inst.now.trains t.runs.now → IsGoodTraffic t
 is_sound t inst alike zipped = record {
   alike = alike;
   for_each_train = zipped_lengths (IsRun t.inst.now) t.inst.now.trains t.runs.now zipped;

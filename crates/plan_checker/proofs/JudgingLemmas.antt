@@ -15,7 +15,7 @@ use Rattle.cell_net.specs.declared.plans.Plan.{Plan}
 use Rattle.cell_net.specs.declared.trains.TrainSpec.{TrainSpec}
 use Rattle.cell_net.specs.declared.parts.InstanceParts.{InstanceParts}
 use Rattle.plan_checker.specs.Clashes.{AreApartAt}
-use Rattle.plan_checker.specs.RunRules.{GoesOn, IsMetAt, rule_of_sweeps, rules_of_run, rules_of_sweep}
+use Rattle.plan_checker.specs.RunRules.{GoesOnFromBefore, IsMetAt, rule_of_sweeps, rules_of_run, rules_of_sweep}
 use Rattle.plan_checker.specs.Verdicts.{HaveRunsBelow, IsHeld, rule_of_runs, rules_of_plan}
 use Rattle.plan_checker.specs.declared.breach.Breach.{Breach}
 
@@ -46,7 +46,7 @@ sweep_of_run p train t r run k w there =
     let within = slice_get_within r.sweeps k w there in
     let is : slice_index_or r.sweeps k w ≡ w = get_or_from_slice_get r.sweeps k w w there in
     let sweep : IsSweep p t w.cells = subst (λ (v : Sweep). IsSweep p t v.cells) is (run.sweeps k w within) in
-    let goes_on : GoesOn t r.sweeps k w = λ before v at here.
+    let goes_on : GoesOnFromBefore t r.sweeps k w = λ before v at here.
     let next : slice_index_or r.sweeps (before + 1) w ≡ w = rw at is in
     let last : slice_index_or r.sweeps before w ≡ v = get_or_from_slice_get r.sweeps before v w here in
     subst (λ (u : Sweep). Continues t v.cells u.cells) next

@@ -10,8 +10,8 @@ use Rattle.cell_net.specs.declared.cells.DirCell.{DirCell}
 use Rattle.cell_net.specs.declared.plans.Sweep.{Sweep}
 use Rattle.layout_rules.specs.Classes.{class_of}
 use Rattle.plan_checker.specs.Clashes.{AreApartAt}
-use Rattle.plan_checker.specs.ClashSearch.{AreAllApart, AreTrainsApart, IsSound, Touches}
-use Rattle.plan_checker.specs.ClassMarks.{AreEarlier, AreOfTrains, HasClass, IsClassMarked, IsFreeFor, IsMarked, IsOneTaken, IsTaken, IsTrainMarked, KeepsMarks, MarksOnly, TouchesClass}
+use Rattle.plan_checker.specs.ClashSearch.{AreAllApart, AreTrainsApart, IsGoodTraffic, Touches}
+use Rattle.plan_checker.specs.ClassMarks.{AreEarlier, AreOfTrains, HasClass, IsClassMarked, IsFreeFor, IsMarkedBy, IsOneTaken, IsTaken, IsTrainMarked, KeepsMarks, MarksOnly, TouchesClass}
 use Rattle.plan_checker.specs.declared.marks.Mark.{Mark}
 use Rattle.plan_checker.specs.declared.traffic.Traffic.{Traffic}
 use Rattle.plan_checker.proofs.ListSteps.{get_contained, holds_more}
@@ -75,7 +75,7 @@ train_marked t marks step train w has marked = record {
 
 -- one class more is marked
 pub marked_more : (classes : List ℕ) (old new : List (Option Mark)) (step train : ℕ) (cells : List DirCell) (n : ℕ) (d : DirCell) → KeepsMarks step old new →
-    HoldsBelow (IsClassMarked classes old step train) cells n → IsMarked new step train (class_of classes (slice_index_or cells n d).cell) →
+    HoldsBelow (IsClassMarked classes old step train) cells n → IsMarkedBy new step train (class_of classes (slice_index_or cells n d).cell) →
     HoldsBelow (IsClassMarked classes new step train) cells (n + 1)
 marked_more classes old new step train cells n d keeps before here =
     holds_more (IsClassMarked classes new step train) cells n d
@@ -94,12 +94,12 @@ trains_more t old new step n keeps before here =
     here
 
 -- where no two trains have marked one class, all are apart
-pub apart_by_marks : (t : Traffic) (marks : List (Option Mark)) (step n : ℕ) → IsSound t → length t.runs.now ≤ n →
+pub apart_by_marks : (t : Traffic) (marks : List (Option Mark)) (step n : ℕ) → IsGoodTraffic t → length t.runs.now ≤ n →
     ((x : ℕ) → x < n → IsTrainMarked t marks step x) → AreAllApart t step
 unfolding AreApartAt
 apart_by_marks t marks step n sound all marked = record { apart = apart }
   where
-    mark_of : (x : ℕ) (w : Sweep) (c : DirCell) → Touches t x step w → Contains w.cells c → IsMarked marks step x (class_of t.classes.now c.cell)
+    mark_of : (x : ℕ) (w : Sweep) (c : DirCell) → Touches t x step w → Contains w.cells c → IsMarkedBy marks step x (class_of t.classes.now c.cell)
     mark_of x w c has there =
         let within : x < length t.runs.now = slice_get_within t.runs.now x has.run has.is_run in
         ((marked x (omega arith)).each w has).at_each there.0 c (get_contained w.cells c there)
@@ -152,12 +152,12 @@ taken_where_not_free marks class step train d within taken =
     (other, differs, slice_get-get_or marks class d within ∙ ap Some is)
 
 pub marked_there : (marks : List (Option Mark)) (class step train : ℕ) → class < length marks →
-    IsMarked (slice_set marks class (Some (record { step = step; train = train }))) step train class
+    IsMarkedBy (slice_set marks class (Some (record { step = step; train = train }))) step train class
 marked_there marks class step train within = get_set marks class (Some (record { step = step; train = train })) within
 
 -- one mark more
 pub only_one_more : (marks : List (Option Mark)) (class step train other place : ℕ) → class < length marks →
-    IsMarked (slice_set marks class (Some (record { step = step; train = train }))) step other place → IsMarked marks step other place ⊎ ((other ≡ train) × (place ≡ class))
+    IsMarkedBy (slice_set marks class (Some (record { step = step; train = train }))) step other place → IsMarkedBy marks step other place ⊎ ((other ≡ train) × (place ≡ class))
 only_one_more marks class step train other place within is = elim (eqb_tells place class) [
   | inl same ↦
       let new : Mark = record { step = step; train = train } in
@@ -187,7 +187,7 @@ only_none step train classes cells marks = record { only = λ other class is. in
 -- the class of one cell more is marked
 pub only_more : (step train : ℕ) (classes : List ℕ) (cells : List DirCell) (first old new : List (Option Mark)) (n : ℕ) (d : DirCell) → n < length cells →
     MarksOnly step train classes cells first old →
-    ((other place : ℕ) → IsMarked new step other place → IsMarked old step other place ⊎ ((other ≡ train) × (place ≡ class_of classes (slice_index_or cells n d).cell))) →
+    ((other place : ℕ) → IsMarkedBy new step other place → IsMarkedBy old step other place ⊎ ((other ≡ train) × (place ≡ class_of classes (slice_index_or cells n d).cell))) →
     MarksOnly step train classes cells first new
 unfolding HasClass
 only_more step train classes cells first old new n d within before more = record {
@@ -226,7 +226,7 @@ trains_with t old new step train w touches before only = record {
 }
 
 -- where another train has marked the class of a cell, the two trains aren't apart
-pub not_all_apart : (t : Traffic) (old new : List (Option Mark)) (step train : ℕ) (w : Sweep) → IsSound t → Touches t train step w → AreOfTrains t old step train →
+pub not_all_apart : (t : Traffic) (old new : List (Option Mark)) (step train : ℕ) (w : Sweep) → IsGoodTraffic t → Touches t train step w → AreOfTrains t old step train →
     MarksOnly step train t.classes.now w.cells old new → IsOneTaken t.classes.now new step train w.cells → ¬ AreAllApart t step
 unfolding AreApartAt IsOneTaken IsTaken TouchesClass HasClass
 not_all_apart t old new step train w sound touches before only (d, in_w, (other, differs, marked)) all =

@@ -12,8 +12,8 @@ use Rattle.plan_checker.specs.declared.clash.Clash.{Clash}
 use Rattle.plan_checker.specs.declared.traffic.Traffic.{Traffic}
 
 -- the cells are cells of the instance
-abbrev pub AreCells : Traffic → List DirCell → Type 0
-AreCells t cells = All (λ d. IsCell t.inst.now d.cell) cells
+abbrev pub AreCellsOfTraffic : Traffic → List DirCell → Type 0
+AreCellsOfTraffic t cells = All (λ d. IsCell t.inst.now d.cell) cells
 
 -- the train of this number touches the sweep at the step
 abbrev pub Touches : Traffic → ℕ → ℕ → Sweep → Type 0
@@ -21,10 +21,10 @@ Touches t train step w = HasSweep t.runs.now train step w
 
 -- the classes are those of the layout, and there is a run for each train, over cells and at steps of
 -- the instance
-pub record IsSound (t : Traffic) : Type 0 where
+pub record IsGoodTraffic (t : Traffic) : Type 0 where
   pub alike : AreClasses t.inst.now t.layout.now t.classes.now
   pub for_each_train : length t.runs.now ≡ length t.inst.now.trains
-  pub on_cells : (train step : ℕ) (w : Sweep) → Touches t train step w → AreCells t w.cells
+  pub on_cells : (train step : ℕ) (w : Sweep) → Touches t train step w → AreCellsOfTraffic t w.cells
   pub in_time : (train step : ℕ) (w : Sweep) → Touches t train step w → step < t.inst.now.steps
 
 -- the two cells are linked under the layout

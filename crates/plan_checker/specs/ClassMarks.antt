@@ -9,8 +9,8 @@ use Rattle.plan_checker.specs.declared.marks.Mark.{Mark}
 use Rattle.plan_checker.specs.declared.traffic.Traffic.{Traffic}
 
 -- the last mark at the class is that of the train at the step
-abbrev pub IsMarked : List (Option Mark) → ℕ → ℕ → ℕ → Type 0
-IsMarked marks step train class = slice_get marks class ≡ Some (Some (record { step = step; train = train }))
+abbrev pub IsMarkedBy : List (Option Mark) → ℕ → ℕ → ℕ → Type 0
+IsMarkedBy marks step train class = slice_get marks class ≡ Some (Some (record { step = step; train = train }))
 
 -- if the mark was made at the step, the train made it
 abbrev pub IsFreeFor : Option Mark → ℕ → ℕ → Type 0
@@ -18,11 +18,11 @@ IsFreeFor mark step train = (other : ℕ) → mark ≡ Some (record { step = ste
 
 -- each class that was marked at the step is still marked by the same train
 pub record KeepsMarks (step : ℕ) (old new : List (Option Mark)) : Type 0 where
-  pub kept : (train class : ℕ) → IsMarked old step train class → IsMarked new step train class
+  pub kept : (train class : ℕ) → IsMarkedBy old step train class → IsMarkedBy new step train class
 
 -- the class of the cell is marked by the train at the step
 abbrev pub IsClassMarked : List ℕ → List (Option Mark) → ℕ → ℕ → ℕ → DirCell → Type 0
-IsClassMarked classes marks step train place d = IsMarked marks step train (class_of classes d.cell)
+IsClassMarked classes marks step train place d = IsMarkedBy marks step train (class_of classes d.cell)
 
 -- the classes of what the train touches at the step are marked by it
 pub record IsTrainMarked (t : Traffic) (marks : List (Option Mark)) (step train : ℕ) : Type 0 where
@@ -38,11 +38,11 @@ HasClass classes cells class = (d : DirCell) × Contains cells d × (class_of cl
 
 -- what is marked at the step was marked before, or is a class of the cells, marked by the train
 pub record MarksOnly (step train : ℕ) (classes : List ℕ) (cells : List DirCell) (old new : List (Option Mark)) : Type 0 where
-  pub only : (other class : ℕ) → IsMarked new step other class → IsMarked old step other class ⊎ ((other ≡ train) × HasClass classes cells class)
+  pub only : (other class : ℕ) → IsMarkedBy new step other class → IsMarkedBy old step other class ⊎ ((other ≡ train) × HasClass classes cells class)
 
 -- another train has marked the class at the step
 unfoldable pub IsTaken : List (Option Mark) → ℕ → ℕ → ℕ → Type 0
-IsTaken marks step train class = (other : ℕ) × (other ≢ train) × IsMarked marks step other class
+IsTaken marks step train class = (other : ℕ) × (other ≢ train) × IsMarkedBy marks step other class
 
 -- another train has marked the class of one of the cells at the step
 unfoldable pub IsOneTaken : List ℕ → List (Option Mark) → ℕ → ℕ → List DirCell → Type 0
@@ -54,4 +54,4 @@ TouchesClass t step train class = (w : Sweep) × Touches t train step w × HasCl
 
 -- what is marked at the step is marked by a train before this one that touches the class
 pub record AreOfTrains (t : Traffic) (marks : List (Option Mark)) (step count : ℕ) : Type 0 where
-  pub each : (train class : ℕ) → IsMarked marks step train class → (train < count) × TouchesClass t step train class
+  pub each : (train class : ℕ) → IsMarkedBy marks step train class → (train < count) × TouchesClass t step train class

@@ -15,15 +15,15 @@ use Rattle.plan_checker.specs.declared.breach.Breach.{Breach}
 use Rattle.plan_checker.specs.declared.breach.Breach.TheVariants as Breaches
 
 -- the sweep goes on from the one before its place, if there is one
-abbrev pub GoesOn : TrainSpec → List Sweep → ℕ → Sweep → Type 0
-GoesOn t sweeps place w =
+abbrev pub GoesOnFromBefore : TrainSpec → List Sweep → ℕ → Sweep → Type 0
+GoesOnFromBefore t sweeps place w =
     (before : ℕ) (v : Sweep) → before + 1 ≡ place → slice_get sweeps before ≡ Some v → Continues t v.cells w.cells
 
 -- what stands at the place of a run is a sweep of the train, and goes on from the one before
 abbrev pub rules_of_sweep : InstanceParts → TrainId → TrainSpec → TrainRun → ℕ → Sweep → List (OrderRule Breach)
 rules_of_sweep p train t r place w =
     rules_of_cells (Breaches.Path train (r.start + place)) (Breaches.Length train (r.start + place)) (Breaches.Speed train (r.start + place)) p t w.cells ++
-    rule (Breaches.Join train (r.start + place)) (GoesOn t r.sweeps place w) ∷ []
+    rule (Breaches.Join train (r.start + place)) (GoesOnFromBefore t r.sweeps place w) ∷ []
 
 -- the breach that the fault of a sweep is, at a step
 abbrev pub breach_of : SweepFault → TrainId → ℕ → Breach

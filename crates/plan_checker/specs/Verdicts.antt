@@ -53,9 +53,9 @@ abbrev pub IsFirstBreach : InstanceParts → List CandidateId → Plan → Breac
 IsFirstBreach p borders plan = IsFirstBroken (rules_of_plan p borders plan)
 
 -- lawful; or a breach, the first, and not lawful
-abbrev pub IsVerdict : InstanceParts → List CandidateId → Plan → Verdict → Type 0
-IsVerdict p borders plan Verdicts.Lawful = IsLawful p borders plan
-IsVerdict p borders plan (Verdicts.Breach breach) = IsFirstBreach p borders plan breach × ¬ IsLawful p borders plan
+abbrev pub IsPlanVerdict : InstanceParts → List CandidateId → Plan → Verdict → Type 0
+IsPlanVerdict p borders plan Verdicts.Lawful = IsLawful p borders plan
+IsPlanVerdict p borders plan (Verdicts.Breach breach) = IsFirstBreach p borders plan breach × ¬ IsLawful p borders plan
 
 -- each train before this one has its run
 abbrev pub HaveRunsBelow : InstanceParts → List TrainRun → ℕ → Type 0

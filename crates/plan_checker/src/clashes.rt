@@ -6,7 +6,7 @@ ghost use Rattle.cell_net.specs.Runs.{IsRun};
 ghost use Rattle.layout_rules.specs.Classes.{AreClasses};
 ghost use Rattle.plan_checker.specs.Clashes.{AreApartAt, IsFirstClash};
 ghost use Rattle.plan_checker.specs.ClassMarks.{AreEarlier};
-ghost use Rattle.plan_checker.specs.ClashSearch.{AreAllApart, AreTrainsApart, IsFirstClashAt, IsSound};
+ghost use Rattle.plan_checker.specs.ClashSearch.{AreAllApart, AreTrainsApart, IsFirstClashAt, IsGoodTraffic};
 
 use crate::clash::Clash;
 use crate::marks::{Mark, are_all_apart, no_marks};
@@ -44,7 +44,7 @@ pub(crate) fn first_clash(
 
 /// The first clash, with a mark for each cell.
 fn first_clash_in(traffic: &Traffic, marks: &mut [Option<Mark>]) -> Option<Clash>
-    requires sound { IsSound traffic.now }
+    requires sound { IsGoodTraffic traffic.now }
     requires marks { length marks.old ≡ length traffic.now.inst.now.cells }
     requires none { AreEarlier 0 marks.old }
     ensures { MatchOption result
@@ -62,7 +62,7 @@ fn first_clash_in(traffic: &Traffic, marks: &mut [Option<Mark>]) -> Option<Clash
 
 /// The clash of the first pair of trains at the step. Compares pairs only where two trains aren't apart.
 fn clash_at(traffic: &Traffic, step: u32, marks: &mut [Option<Mark>]) -> Option<Clash>
-    requires sound { IsSound traffic.now }
+    requires sound { IsGoodTraffic traffic.now }
     requires marks { length marks.old ≡ length traffic.now.inst.now.cells }
     requires earlier { AreEarlier step marks.old }
     ensures clash { MatchOption result (AreAllApart traffic.now step) (IsFirstClashAt traffic.now step) }

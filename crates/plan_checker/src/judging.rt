@@ -3,7 +3,7 @@
 ghost use Rattle.std.specs.Prelude.{◌≡◌, ◌<◌, ℕ, All, IfOk, MatchOption, OnErr, Some, length, slice_get};
 ghost use Rattle.vss_lists.specs.Breaks.{HoldsOfEach, BreaksFirstAt};
 ghost use Rattle.cell_net.specs.Borders.{IsBorderSet, IsLayout};
-ghost use Rattle.plan_checker.specs.Verdicts.{HaveRunsBelow, IsHeld, IsVerdict, rule_of_runs};
+ghost use Rattle.plan_checker.specs.Verdicts.{HaveRunsBelow, IsHeld, IsPlanVerdict, rule_of_runs};
 
 use crate::breach::Breach;
 use crate::clash::Clash;
@@ -35,7 +35,7 @@ pub fn judge(
     requires layout { IsBorderSet inst.now layout.now }
     requires runs { length plan.now.runs ≡ length inst.now.trains }
     requires short { All (λ r. length r.sweeps < 2000000000) plan.now.runs }
-    ensures verdict { IfOk result (IsVerdict inst.now layout.now plan.now) }
+    ensures verdict { IfOk result (IsPlanVerdict inst.now layout.now plan.now) }
     ensures memory { OnErr result (IsLayout inst.now layout.now) }
 {
     if let Some(candidate) = first_missing(inst.kept(), layout) {

@@ -4,8 +4,8 @@ ghost use Rattle.std.specs.Prelude.{◌≡◌, ◌+◌, ◌<◌, ◌⊎◌, ◌�
 ghost use Rattle.std.specs.Bool.{OnFalse};
 ghost use Rattle.vss_lists.specs.Breaks.{HoldsOfEach};
 ghost use Rattle.layout_rules.specs.Classes.{class_of};
-ghost use Rattle.plan_checker.specs.ClashSearch.{AreAllApart, IsSound};
-ghost use Rattle.plan_checker.specs.ClassMarks.{AreEarlier, AreOfTrains, IsClassMarked, IsFreeFor, IsMarked, IsOneTaken, IsTaken, IsTrainMarked, KeepsMarks, MarksOnly};
+ghost use Rattle.plan_checker.specs.ClashSearch.{AreAllApart, IsGoodTraffic};
+ghost use Rattle.plan_checker.specs.ClassMarks.{AreEarlier, AreOfTrains, IsClassMarked, IsFreeFor, IsMarkedBy, IsOneTaken, IsTaken, IsTrainMarked, KeepsMarks, MarksOnly};
 
 use crate::traffic::{Traffic, sweep_at};
 use cell_net::DirCell;
@@ -30,7 +30,7 @@ pub(crate) fn no_marks(alloc: Global, count: usize) -> Result<Vec<Option<Mark>>,
 /// Whether all trains are apart at the step: no two touch one class of linked cells. Linear in the cells of
 /// the sweeps at the step. The marks are those of earlier steps.
 pub(crate) fn are_all_apart(traffic: &Traffic, step: u32, marks: &mut [Option<Mark>]) -> bool
-    requires sound { IsSound traffic.now }
+    requires sound { IsGoodTraffic traffic.now }
     requires marks { length marks.old ≡ length traffic.now.inst.now.cells }
     requires earlier { AreEarlier step marks.old }
     ensures apart { IsTrue result ↔ AreAllApart traffic.now step }
@@ -46,7 +46,7 @@ pub(crate) fn are_all_apart(traffic: &Traffic, step: u32, marks: &mut [Option<Ma
 
 /// Marks the classes of the cells that the train touches at the step, as `mark_sweep` does.
 fn mark_train(traffic: &Traffic, step: u32, train: u32, marks: &mut [Option<Mark>]) -> bool
-    requires sound { IsSound traffic.now }
+    requires sound { IsGoodTraffic traffic.now }
     requires train { train < length traffic.now.runs.now }
     requires marks { length marks.old ≡ length traffic.now.inst.now.cells }
     requires trains { AreOfTrains traffic.now marks.old step train }
@@ -94,9 +94,9 @@ fn mark_sweep(
 fn mark_class(marks: &mut [Option<Mark>], class: u32, step: u32, train: u32) -> bool
     requires within { class < length marks.old }
     requires earlier { AreEarlier (step + 1) marks.old }
-    ensures marked { IsTrue result → IsMarked marks.new step train class }
+    ensures marked { IsTrue result → IsMarkedBy marks.new step train class }
     ensures kept { KeepsMarks step marks.old marks.new }
-    ensures only { (other place : ℕ) → IsMarked marks.new step other place → IsMarked marks.old step other place ⊎ ((other ≡ train) × (place ≡ class)) }
+    ensures only { (other place : ℕ) → IsMarkedBy marks.new step other place → IsMarkedBy marks.old step other place ⊎ ((other ≡ train) × (place ≡ class)) }
     ensures earlier { AreEarlier (step + 1) marks.new }
     ensures taken { OnFalse result (IsTaken marks.new step train class) }
 {

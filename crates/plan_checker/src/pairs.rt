@@ -7,7 +7,7 @@ ghost use Rattle.cell_net.specs.Plans.{AreSeparated};
 ghost use Rattle.cell_net.specs.Runs.{IsSweepAt};
 ghost use Rattle.cell_net.specs.declared.plans.Sweep.{Sweep};
 ghost use Rattle.plan_checker.specs.Clashes.{AreFirstLinked};
-ghost use Rattle.plan_checker.specs.ClashSearch.{AreAllApart, AreTrainsApart, AreCells, AreLinked, IsApartFromLater, IsClash, IsFirstClashAt, IsFirstClashOf, IsFirstLinkedTo, IsSeparated, IsSound};
+ghost use Rattle.plan_checker.specs.ClashSearch.{AreAllApart, AreTrainsApart, AreCellsOfTraffic, AreLinked, IsApartFromLater, IsClash, IsFirstClashAt, IsFirstClashOf, IsFirstLinkedTo, IsSeparated, IsGoodTraffic};
 
 use crate::clash::Clash;
 use crate::traffic::{Traffic, sweep_at};
@@ -15,7 +15,7 @@ use cell_net::{CellId, DirCell, TrainId};
 
 /// The clash of the first pair of trains at the step.
 pub(crate) fn first_clash_at(traffic: &Traffic, step: u32) -> Option<Clash>
-    requires { IsSound traffic.now }
+    requires { IsGoodTraffic traffic.now }
     ensures { MatchOption result (AreAllApart traffic.now step) (IsFirstClashAt traffic.now step) }
 {
     for a in 0..traffic.inst.train_count() {
@@ -29,7 +29,7 @@ pub(crate) fn first_clash_at(traffic: &Traffic, step: u32) -> Option<Clash>
 
 /// The clash of a train at the step with the first later one.
 fn first_clash_of(traffic: &Traffic, step: u32, a: u32) -> Option<Clash>
-    requires sound { IsSound traffic.now }
+    requires sound { IsGoodTraffic traffic.now }
     requires train { a < length traffic.now.runs.now }
     ensures { MatchOption result (IsApartFromLater traffic.now step a) (IsFirstClashOf traffic.now step a) }
 {
@@ -53,7 +53,7 @@ fn first_clash_of(traffic: &Traffic, step: u32, a: u32) -> Option<Clash>
 
 /// The first linked cells of two trains at the step.
 fn first_linked_at(traffic: &Traffic, step: u32, a: u32, b: u32) -> Option<(CellId, CellId)>
-    requires sound { IsSound traffic.now }
+    requires sound { IsGoodTraffic traffic.now }
     requires one { a < length traffic.now.runs.now }
     requires other { b < length traffic.now.runs.now }
     ensures { MatchOption result (AreTrainsApart traffic.now step a b) (λ pair. IsClash traffic.now step a b pair.0 pair.1) }
@@ -65,9 +65,9 @@ fn first_linked_at(traffic: &Traffic, step: u32, a: u32, b: u32) -> Option<(Cell
 
 /// The first linked cells, in the order of the one list, then of the other.
 fn first_linked(traffic: &Traffic, one: &[DirCell], other: &[DirCell]) -> Option<(CellId, CellId)>
-    requires sound { IsSound traffic.now }
-    requires one { AreCells traffic.now one.now }
-    requires other { AreCells traffic.now other.now }
+    requires sound { IsGoodTraffic traffic.now }
+    requires one { AreCellsOfTraffic traffic.now one.now }
+    requires other { AreCellsOfTraffic traffic.now other.now }
     ensures { MatchOption result
         (AreSeparated traffic.now.inst.now traffic.now.layout.now one.now other.now)
         (λ pair. AreFirstLinked traffic.now.inst.now traffic.now.layout.now one.now other.now pair.0 pair.1) }
@@ -83,9 +83,9 @@ fn first_linked(traffic: &Traffic, one: &[DirCell], other: &[DirCell]) -> Option
 
 /// The first of the cells that is linked with this one.
 fn first_linked_to(traffic: &Traffic, cell: CellId, cells: &[DirCell]) -> Option<CellId>
-    requires sound { IsSound traffic.now }
+    requires sound { IsGoodTraffic traffic.now }
     requires cell { IsCell traffic.now.inst.now cell }
-    requires cells { AreCells traffic.now cells.now }
+    requires cells { AreCellsOfTraffic traffic.now cells.now }
     ensures { MatchOption result (HoldsOfEach (IsSeparated traffic.now cell) cells.now) (IsFirstLinkedTo traffic.now cell cells.now) }
 {
     for directed in cells {
@@ -97,7 +97,7 @@ fn first_linked_to(traffic: &Traffic, cell: CellId, cells: &[DirCell]) -> Option
 }
 
 fn are_linked(traffic: &Traffic, one: CellId, other: CellId) -> bool
-    requires sound { IsSound traffic.now }
+    requires sound { IsGoodTraffic traffic.now }
     requires one { IsCell traffic.now.inst.now one }
     requires other { IsCell traffic.now.inst.now other }
     ensures { IsTrue result ↔ AreLinked traffic.now one other }

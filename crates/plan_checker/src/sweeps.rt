@@ -3,7 +3,7 @@
 ghost use Rattle.std.specs.Prelude.{◌≡◌, ◌+◌, ◌<◌, ◌↔◌, ◌^◌, IsTrue, MatchOption, Some, length, slice_get};
 ghost use Rattle.vss_lists.specs.Orders.{AreKept, IsFirstBroken};
 ghost use Rattle.cell_net.specs.Runs.{Continues};
-ghost use Rattle.plan_checker.specs.RunRules.{GoesOn, breach_of, rule_of_sweeps, rules_of_sweep};
+ghost use Rattle.plan_checker.specs.RunRules.{GoesOnFromBefore, breach_of, rule_of_sweeps, rules_of_sweep};
 
 use crate::breach::Breach;
 use cell_net::{DirCell, Instance, Sweep, TrainId, TrainRun, TrainSpec};
@@ -68,7 +68,7 @@ fn breach_of(fault: SweepFault, train: TrainId, step: u32) -> Breach
 }
 
 fn goes_on(train: &TrainSpec, sweeps: &[Sweep], place: usize, sweep: &Sweep) -> bool
-    ensures { IsTrue result ↔ GoesOn train.now sweeps.now place sweep.now }
+    ensures { IsTrue result ↔ GoesOnFromBefore train.now sweeps.now place sweep.now }
 {
     match place.checked_sub(1) {
         None => true,

@@ -8,9 +8,9 @@ use Rattle.std.proofs.lemmas.List.Elements.{Contains-append_cases, Contains-appe
 use Rattle.std.proofs.lemmas.List.Sums.{sum_by-cons}
 use Rattle.std.proofs.lemmas.Option.{same_Some, slice_get_within, get_or_from_slice_get, slice_get-get_or}
 use Rattle.std.proofs.lemmas.Slice.Eq.{bytes_eq-Decides}
-use Rattle.rail_net.specs.Parts.{Stated, stated_by, listings_from, listings, Lists, IsOfSection, IsTrack, track_names}
+use Rattle.rail_net.specs.Parts.{Stated, stated_by, listings_from, listings, Lists, IsTrackOfSection, IsTrack, track_names}
 use Rattle.rail_net.specs.Rules.{AreKnown, IsListedOnce}
-use Rattle.rail_net.specs.Entries.{HasEntry, count_of}
+use Rattle.rail_net.specs.Entries.{HasEntry, entries_under}
 use Rattle.rail_net.specs.Tables.{Numbers, AddsListings, AreListings}
 use Rattle.rail_net.specs.declared.entries.Entry.{Entry}
 use Rattle.rail_net.specs.declared.parts.GroupPart.{GroupPart}
@@ -161,7 +161,7 @@ has_listings i (suc k) (h ∷ gs) g name item at is there =
     Contains-append_right (stated_by i h.tracks) (listings_from (i + 1) gs) (record { name = name; item = item }) (has_listings (i + 1) k gs g name item (omega arith) is there)
 
 -- an entry under a track's number has the number of a section that lists it
-pub of_entry : (p : NetParts) (entries : List Entry) (track section : ℕ) → AreListings p entries → HasEntry entries track section → IsOfSection p section track
+pub of_entry : (p : NetParts) (entries : List Entry) (track section : ℕ) → AreListings p entries → HasEntry entries track section → IsTrackOfSection p section track
 unfolding AreListings
 of_entry p entries track section numbers there =
     let entry = numbers_has (track_names p) (listings p) entries track section numbers there in
@@ -207,7 +207,7 @@ same_test false false there back = refl
 -- where a name has one number, as many entries are under it as names are stated
 numbers_count : (names : List (List ℕ)) (ss : List Stated) (es : List Entry) (key : ℕ) (name : List ℕ)
     → ((i j : ℕ) (n : List ℕ) → slice_get names i ≡ Some n → slice_get names j ≡ Some n → i ≡ j)
-    → slice_get names key ≡ Some name → Numbers names ss es → count_of es key ≡ count_by (λ s. bytes_eq s.name name) ss
+    → slice_get names key ≡ Some name → Numbers names ss es → entries_under es key ≡ count_by (λ s. bytes_eq s.name name) ss
 numbers_count names [] [] key name one is numbers = refl
 numbers_count names [] (e ∷ es) key name one is numbers = absurd numbers
 numbers_count names (s ∷ ss) [] key name one is numbers = absurd numbers
@@ -216,12 +216,12 @@ numbers_count names (s ∷ ss) (e ∷ es) key name one is numbers =
     (λ t. (bytes_eq-Decides s.name name).1 (same_Some s.name name (sym numbers.0 ∙ (ap (slice_get names) ((Decides-eqb e.key key).0 t) ∙ is))))
     (λ t. (Decides-eqb e.key key).1 (one e.key key s.name numbers.0 (is ∙ ap Some (sym ((bytes_eq-Decides s.name name).0 t))))) in
     let rest = numbers_count names ss es key name one is numbers.2 in
-    sum_by-cons (λ (x : Entry). cond (x.key == key) 1 0) e es ∙ (ap (λ b. cond b 1 0 + count_of es key) test ∙ (ap (λ n. cond (bytes_eq s.name name) 1 0 + n) rest
+    sum_by-cons (λ (x : Entry). cond (x.key == key) 1 0) e es ∙ (ap (λ b. cond b 1 0 + entries_under es key) test ∙ (ap (λ n. cond (bytes_eq s.name name) 1 0 + n) rest
     ∙ sym (sum_by-cons (λ (x : Stated). cond (bytes_eq x.name name) 1 0) s ss)))
 
 pub listing_count : (p : NetParts) (entries : List Entry) (track : ℕ) (name : List ℕ)
     → ((i j : ℕ) (n : List ℕ) → slice_get (track_names p) i ≡ Some n → slice_get (track_names p) j ≡ Some n → i ≡ j)
-    → AreListings p entries → IsTrack p name track → count_of entries track ≡ count_by (λ l. bytes_eq l.name name) (listings p)
+    → AreListings p entries → IsTrack p name track → entries_under entries track ≡ count_by (λ l. bytes_eq l.name name) (listings p)
 unfolding AreListings
 listing_count p entries track name one numbers is = numbers_count (track_names p) (listings p) entries track name one is numbers
 
@@ -257,7 +257,7 @@ one_passes p (z ∷ xs) x y few has px also py = elim (contains_cons z xs x has)
 ]
 
 -- where each track is listed once at most, it is of one section
-pub one_section : (p : NetParts) (a b track : ℕ) → HoldsOfEach (IsListedOnce p) p.tracks → IsOfSection p a track → IsOfSection p b track → a ≡ b
+pub one_section : (p : NetParts) (a b track : ℕ) → HoldsOfEach (IsListedOnce p) p.tracks → IsTrackOfSection p a track → IsTrackOfSection p b track → a ≡ b
 one_section p a b track once of_a of_b =
     let own : of_b.name ≡ of_a.name = same_Some of_b.name of_a.name (sym of_b.is_track ∙ of_a.is_track) in
     let part = mapped_at (λ (t : TrackPart). t.name) p.tracks track of_a.name of_a.is_track in

@@ -10,7 +10,7 @@ use Rattle.std.proofs.lemmas.Slice.Eq.{bytes_eq-Decides}
 use Rattle.rail_net.specs.Parts.{EndsAt, IsNode, IsTrack, node_names, track_names}
 use Rattle.rail_net.specs.Refusals.{HasNewNodes}
 use Rattle.rail_net.specs.Entries.{HasEntry}
-use Rattle.rail_net.specs.Tables.{AreEndsOf, AreNodes, spread, under, under_both}
+use Rattle.rail_net.specs.Tables.{AreTrackEnds, AreNodes, spread, under, under_both}
 use Rattle.rail_net.specs.declared.entries.Entry.{Entry}
 use Rattle.rail_net.specs.declared.ends.TrackEnds.{TrackEnds}
 use Rattle.rail_net.specs.declared.parts.NetParts.{NetParts}
@@ -33,33 +33,33 @@ pub track_within : (p : NetParts) (track : ℕ) (name : List ℕ) → IsTrack p 
 track_within p track name is = subst (λ n. track < n) (length-map p.tracks (λ (t : TrackPart). t.name)) (slice_get_within (track_names p) track name is)
 
 -- the ends of a track, with the track itself
-ends_here : (p : NetParts) (ends : List TrackEnds) → AreEndsOf p ends → (k : ℕ) (e : TrackEnds) → slice_get ends k ≡ Some e → (t : TrackPart) × (slice_get p.tracks k ≡ Some t) × AreNodes (node_names p) t e
+ends_here : (p : NetParts) (ends : List TrackEnds) → AreTrackEnds p ends → (k : ℕ) (e : TrackEnds) → slice_get ends k ≡ Some e → (t : TrackPart) × (slice_get p.tracks k ≡ Some t) × AreNodes (node_names p) t e
 ends_here p ends all k e is =
     let within : k < length p.tracks = subst (λ n. k < n) all.count (slice_get_within ends k e is) in
     let t = there_is p.tracks k within in
     (t.0, t.1, all.each k t.0 e t.1 is)
 
-pub ends_there : (p : NetParts) (ends : List TrackEnds) → AreEndsOf p ends → (k : ℕ) (t : TrackPart) → slice_get p.tracks k ≡ Some t → (e : TrackEnds) × (slice_get ends k ≡ Some e) × AreNodes (node_names p) t e
+pub ends_there : (p : NetParts) (ends : List TrackEnds) → AreTrackEnds p ends → (k : ℕ) (t : TrackPart) → slice_get p.tracks k ≡ Some t → (e : TrackEnds) × (slice_get ends k ≡ Some e) × AreNodes (node_names p) t e
 ends_there p ends all k t is =
     let within : k < length ends = subst (λ n. k < n) (sym all.count) (slice_get_within p.tracks k t is) in
     let e = there_is ends k within in
     (e.0, e.1, all.each k t e.0 is e.1)
 
 -- all ends are at nodes
-pub from_within : (p : NetParts) (ends : List TrackEnds) → AreEndsOf p ends → (n : ℕ) → n ≡ length p.nodes → All (λ e. e.from < n) ends
+pub from_within : (p : NetParts) (ends : List TrackEnds) → AreTrackEnds p ends → (n : ℕ) → n ≡ length p.nodes → All (λ e. e.from < n) ends
 from_within p ends all n same k d within =
     let e = get_or ends k d in
     let here = ends_here p ends all k e (slice_get-get_or ends k d within) in
     subst (λ m. e.from < m) (sym same) (node_within p e.from here.0.from here.2.from)
 
-pub to_within : (p : NetParts) (ends : List TrackEnds) → AreEndsOf p ends → (n : ℕ) → n ≡ length p.nodes → All (λ e. e.to < n) ends
+pub to_within : (p : NetParts) (ends : List TrackEnds) → AreTrackEnds p ends → (n : ℕ) → n ≡ length p.nodes → All (λ e. e.to < n) ends
 to_within p ends all n same k d within =
     let e = get_or ends k d in
     let here = ends_here p ends all k e (slice_get-get_or ends k d within) in
     subst (λ m. e.to < m) (sym same) (node_within p e.to here.0.to here.2.to)
 
 -- a track with an end at that number ends at the node of its name
-pub at_number : (p : NetParts) (ends : List TrackEnds) → AreEndsOf p ends → (node : ℕ) (name : List ℕ) → IsNode p name node → (k : ℕ) (e : TrackEnds) → slice_get ends k ≡ Some e
+pub at_number : (p : NetParts) (ends : List TrackEnds) → AreTrackEnds p ends → (node : ℕ) (name : List ℕ) → IsNode p name node → (k : ℕ) (e : TrackEnds) → slice_get ends k ≡ Some e
     → (e.from ≡ node) ⊎ (e.to ≡ node) → EndsAt p name k
 at_number p ends all node name is k e there at =
     let here = ends_here p ends all k e there in
@@ -73,7 +73,7 @@ at_number p ends all node name is k e there at =
     }
 
 -- and one that ends there has an end at the number
-pub number_at : (p : NetParts) (ends : List TrackEnds) → AreEndsOf p ends → HasNewNodes p → (node : ℕ) (name : List ℕ) → IsNode p name node → (k : ℕ) → EndsAt p name k
+pub number_at : (p : NetParts) (ends : List TrackEnds) → AreTrackEnds p ends → HasNewNodes p → (node : ℕ) (name : List ℕ) → IsNode p name node → (k : ℕ) → EndsAt p name k
     → (e : TrackEnds) × (slice_get ends k ≡ Some e) × ((e.from ≡ node) ⊎ (e.to ≡ node))
 number_at p ends all new node name is k at =
     let e = ends_there p ends all k at.part at.is_track in (
@@ -110,7 +110,7 @@ has_spread ends values node value k e there valued at =
           (contains_rest (under e.from value) (under e.to value ∷ []) (under e.to value) (contains_first (under e.to value) []))
     ])
 
-spread_keys : (p : NetParts) (ends : List TrackEnds) (values : List ℕ) → AreEndsOf p ends → (node value : ℕ) → HasEntry (spread ends values) node value → node < length p.nodes
+spread_keys : (p : NetParts) (ends : List TrackEnds) (values : List ℕ) → AreTrackEnds p ends → (node value : ℕ) → HasEntry (spread ends values) node value → node < length p.nodes
 spread_keys p ends values all node value there =
     let found = spread_has ends values node value there in
     let here = ends_here p ends all found.0 found.1 found.2 in
@@ -128,7 +128,7 @@ keys_below entries n each k d within =
     same : (entries : List Entry) (k : ℕ) (d e : Entry) → k < length entries → e ≡ get_or entries k d → get_or entries k e ≡ e
     same entries k d e within is = same_Some (get_or entries k e) e (sym (slice_get-get_or entries k e within) ∙ (slice_get-get_or entries k d within ∙ ap Some (sym is)))
 
-pub spread_within : (p : NetParts) (ends : List TrackEnds) (values : List ℕ) → AreEndsOf p ends → (n : ℕ) → n ≡ length p.nodes → All (λ e. e.key < n) (spread ends values)
+pub spread_within : (p : NetParts) (ends : List TrackEnds) (values : List ℕ) → AreTrackEnds p ends → (n : ℕ) → n ≡ length p.nodes → All (λ e. e.key < n) (spread ends values)
 spread_within p ends values all n same = keys_below (spread ends values) n (λ key value there. subst (λ m. key < m) (sym same) (spread_keys p ends values all key value there))
 
 -- ---- degrees

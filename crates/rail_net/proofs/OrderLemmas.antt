@@ -3,7 +3,7 @@ use Rattle.std.proofs.Common.{◌≡◌, ℕ, zero, suc, List, [], ◌∷◌, �
 use Rattle.vss_lists.specs.Breaks.{BreaksFirstAt}
 use Rattle.vss_lists.specs.Orders.{OrderRule, AreKept, BreaksFirst, IsFirstBroken}
 use Rattle.rail_net.specs.Breaks.{IsBreak, refusal_of}
-use Rattle.rail_net.specs.Refusals.{Rules, Refuses, at}
+use Rattle.rail_net.specs.Refusals.{Rules, Refuses, broken_by_item}
 use Rattle.rail_net.specs.declared.names.Break.{Break}
 use Rattle.rail_net.specs.declared.names.Break.TheVariants.{At, Memory}
 use Rattle.rail_net.specs.declared.refusal.ListKind.{ListKind}
@@ -32,14 +32,14 @@ sooner front rest answer told = λ told_it. let first = told told_it in (first.0
 -- the rule of that number is the first that is broken
 pub told_at : (rules : Rules) (n : ℕ) (kind : NetFault) (list : ListKind) {X : Type 0} (holds : ℕ → X → Type 0) (items : List X) (found : Break) (answer : NetRefusal)
     → answer ≡ refusal_of kind list found → IsBreak holds items found
-    → ((place : ℕ) → BreaksFirstAt holds items place → BreaksFirst rules n (at kind list place)) → Refuses rules answer
+    → ((place : ℕ) → BreaksFirstAt holds items place → BreaksFirst rules n (broken_by_item kind list place)) → Refuses rules answer
 unfolding IsFirstBroken
 told_at rules n kind list holds items (At place) answer is broken first =
     λ told. (n, subst (BreaksFirst rules n) (sym is) (first place broken))
 told_at rules n kind list holds items Memory answer is broken first = λ told. absurd (told is)
 
 pub told_place : (rules : Rules) (n : ℕ) (kind : NetFault) (list : ListKind) (place : ℕ) (answer : NetRefusal)
-    → answer ≡ at kind list place → BreaksFirst rules n (at kind list place) → Refuses rules answer
+    → answer ≡ broken_by_item kind list place → BreaksFirst rules n (broken_by_item kind list place) → Refuses rules answer
 unfolding IsFirstBroken
 told_place rules n kind list place answer is first = λ told. (n, subst (BreaksFirst rules n) (sym is) first)
 

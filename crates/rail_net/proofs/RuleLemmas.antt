@@ -4,7 +4,7 @@ use Rattle.std.specs.List.{Contains}
 use Rattle.std.proofs.lemmas.Bool.{eqb-true, eq-eqb}
 use Rattle.std.proofs.lemmas.Option.{same_Some}
 use Rattle.rail_net.specs.Parts.{IsNode, IsTrack, node_names, track_names}
-use Rattle.rail_net.specs.Borders.{IsCandidate, IsFree, IsJoint}
+use Rattle.rail_net.specs.Borders.{IsBorderJoint, IsFree, IsJoint}
 use Rattle.rail_net.specs.Refusals.{HasNewNodes, HasNewTracks}
 use Rattle.rail_net.specs.Rules.{IsHere}
 use Rattle.rail_net.specs.Sections.{IsOfOneSection}
@@ -49,7 +49,7 @@ joint_if p name n part new is there =
     )
 
 pub candidate_if : (p : NetParts) (name : List ℕ) (joint split barred : Bool) → (joint ≡ true) ↔ IsJoint p name → (split ≡ false) ↔ IsOfOneSection p name → (barred ≡ false) ↔ IsFree p name
-    → ((joint ≡ true) × (split ≡ false) × (barred ≡ false)) ↔ IsCandidate p name
+    → ((joint ≡ true) × (split ≡ false) × (barred ≡ false)) ↔ IsBorderJoint p name
 candidate_if p name joint split barred is_joint one free = (
   λ all. record { joint = is_joint.0 all.0; one_section = one.0 all.1; free = free.0 all.2 },
   λ c. (is_joint.1 c.joint, one.1 c.one_section, free.1 c.free),
@@ -61,5 +61,5 @@ joint_named p name has =
     let at = place_of p.nodes (record { name = name; kind = kind.Joint }) has in
     contains_at (node_names p) at.0 name (map_at (λ (x : NodePart). x.name) p.nodes at.0 (record { name = name; kind = kind.Joint }) at.1)
 
-pub no_candidate : (p : NetParts) (name : List ℕ) → ¬ Contains (node_names p) name → ¬ IsCandidate p name
+pub no_candidate : (p : NetParts) (name : List ℕ) → ¬ Contains (node_names p) name → ¬ IsBorderJoint p name
 no_candidate p name none c = none (joint_named p name c.joint)

@@ -10,13 +10,13 @@ use Rattle.node_groups.specs.Touch.{Touch, HasEnd}
 use Rattle.node_groups.specs.Groups.{GroupsByReach}
 use Rattle.node_groups.specs.declared.segments.Segment.{Segment}
 use Rattle.vss_lists.specs.Breaks.{HoldsOfEach}
-use Rattle.rail_net.specs.Parts.{EndsAt, IsNode, IsOfSection}
+use Rattle.rail_net.specs.Parts.{EndsAt, IsNode, IsTrackOfSection}
 use Rattle.rail_net.specs.Borders.{IsFree}
 use Rattle.rail_net.specs.Refusals.{HasNewNodes}
 use Rattle.rail_net.specs.Rules.{IsListedOnce}
 use Rattle.rail_net.specs.Sections.{Adjoin, IsConnected, IsOfOneSection}
 use Rattle.rail_net.specs.Entries.{AreMixed, HasEntry, IsMixed}
-use Rattle.rail_net.specs.Tables.{AreMarkedApart, AreBars, AreEndsOf, AreHomes, AreSplits, flag_of, flags_of, paired, segment_of, segments_from, spread, under, zero_under}
+use Rattle.rail_net.specs.Tables.{AreMarkedApart, AreBars, AreTrackEnds, AreHomes, AreSplits, border_flag, flags_of, paired, track_segment, segments_from, spread, under, zero_under}
 use Rattle.rail_net.specs.declared.entries.Entry.{Entry}
 use Rattle.rail_net.specs.declared.ends.TrackEnds.{TrackEnds}
 use Rattle.rail_net.specs.declared.parts.NetParts.{NetParts}
@@ -36,7 +36,7 @@ unfolding AreMixed
 mark_tells entries marks key mark mixed is = mixed key mark is
 
 -- the home of a track that is of a section
-pub home_of : (p : NetParts) (homes : List ℕ) (section track : ℕ) → AreHomes p homes → HoldsOfEach (IsListedOnce p) p.tracks → IsOfSection p section track → slice_get homes track ≡ Some section
+pub home_of : (p : NetParts) (homes : List ℕ) (section track : ℕ) → AreHomes p homes → HoldsOfEach (IsListedOnce p) p.tracks → IsTrackOfSection p section track → slice_get homes track ≡ Some section
 home_of p homes section track all once of_section =
     let part = mapped_at (λ (t : TrackPart). t.name) p.tracks track of_section.name of_section.is_track in
     let within : track < length homes = subst (λ n. track < n) (sym all.count) (slice_get_within p.tracks track part.0 part.1) in
@@ -45,7 +45,7 @@ home_of p homes section track all once of_section =
 
 -- ---- nodes whose tracks are of different sections
 
-module _ (p : NetParts) (ends : List TrackEnds) (homes : List ℕ) (all_ends : AreEndsOf p ends) (new : HasNewNodes p) (all_homes : AreHomes p homes) (once : HoldsOfEach (IsListedOnce p) p.tracks) where
+module _ (p : NetParts) (ends : List TrackEnds) (homes : List ℕ) (all_ends : AreTrackEnds p ends) (new : HasNewNodes p) (all_homes : AreHomes p homes) (once : HoldsOfEach (IsListedOnce p) p.tracks) where
   not_mixed : (node : ℕ) (name : List ℕ) → IsNode p name node → ¬ IsMixed (spread ends homes) node → IsOfOneSection p name
   unfolding IsMixed IsOfOneSection
   not_mixed node name is none track other section its at also in_section in_its =
@@ -72,14 +72,14 @@ module _ (p : NetParts) (ends : List TrackEnds) (homes : List ℕ) (all_ends : A
 
 -- ---- nodes where a track ends on which no virtual border may stand
 
-flag_is : (t : TrackPart) → flag_of t ≡ 0 → t.virtual_ok ≡ true
+flag_is : (t : TrackPart) → border_flag t ≡ 0 → t.virtual_ok ≡ true
 flag_is t e = by t.virtual_ok refl
   where
     by : (b : Bool) → t.virtual_ok ≡ b → t.virtual_ok ≡ true
     by true is = is
     by false is = absurd (grind arith)
 
-is_flag : (t : TrackPart) → t.virtual_ok ≡ true → flag_of t ≡ 0
+is_flag : (t : TrackPart) → t.virtual_ok ≡ true → border_flag t ≡ 0
 is_flag t e = ap (λ (b : Bool). if b then 0 else 1) e
 
 range_has : (a n k x : ℕ) → slice_get (range_with_len a n) k ≡ Some x → (x ≡ a + k) × (k < n)
@@ -109,18 +109,18 @@ zero_keys p key value there =
     let same : item.0 ≡ key = ap (λ (x : Entry). x.key) item.2 in
     (omega (arith, number.0, number.1), sym (ap (λ (x : Entry). x.value) item.2))
 
-module _ (p : NetParts) (ends : List TrackEnds) (all_ends : AreEndsOf p ends) (new : HasNewNodes p) where
+module _ (p : NetParts) (ends : List TrackEnds) (all_ends : AreTrackEnds p ends) (new : HasNewNodes p) where
   not_barred : (node : ℕ) (name : List ℕ) → IsNode p name node → ¬ IsMixed (bars p ends) node → IsFree p name
   unfolding IsMixed IsFree
   not_barred node name is none k track at there =
       let e = number_at p ends all_ends new node name is k at in
-      let flagged : slice_get (flags_of p.tracks) k ≡ Some (flag_of track) = map_at flag_of p.tracks k track there in
-      let entry : HasEntry (bars p ends) node (flag_of track) =
-      Contains-append_right (map zero_under (range_with_len 0 (length p.nodes))) (spread ends (flags_of p.tracks)) (under node (flag_of track))
-      (has_spread ends (flags_of p.tracks) node (flag_of track) k e.0 e.1 flagged e.2) in
-      elim (cases_eq (flag_of track) 0) [
+      let flagged : slice_get (flags_of p.tracks) k ≡ Some (border_flag track) = map_at border_flag p.tracks k track there in
+      let entry : HasEntry (bars p ends) node (border_flag track) =
+      Contains-append_right (map zero_under (range_with_len 0 (length p.nodes))) (spread ends (flags_of p.tracks)) (under node (border_flag track))
+      (has_spread ends (flags_of p.tracks) node (border_flag track) k e.0 e.1 flagged e.2) in
+      elim (cases_eq (border_flag track) 0) [
         | inl free ↦ flag_is track free
-        | inr barred ↦ absurd (none (flag_of track, 0, entry, bars_zero p ends node (node_within p node name is), barred))
+        | inr barred ↦ absurd (none (border_flag track, 0, entry, bars_zero p ends node (node_within p node name is), barred))
       ]
 
   all_zero : (node : ℕ) (name : List ℕ) → IsNode p name node → IsFree p name → (value : ℕ) → HasEntry (bars p ends) node value → value ≡ 0
@@ -129,7 +129,7 @@ module _ (p : NetParts) (ends : List TrackEnds) (all_ends : AreEndsOf p ends) (n
     | inl zero_one ↦ (zero_keys p node value zero_one).1
     | inr spread_one ↦
         let found = spread_has ends (flags_of p.tracks) node value spread_one in
-        let track = mapped_at flag_of p.tracks found.0 value found.3 in
+        let track = mapped_at border_flag p.tracks found.0 value found.3 in
         sym track.2 ∙ is_flag track.0 (free found.0 track.0 (at_number p ends all_ends node name is found.0 found.1 found.2 found.4) track.1)
   ]
 
@@ -163,7 +163,7 @@ reaches_map : {X : Type 0} (R S : X → X → Type 0) → ((a b : X) → R a b �
 unfolding Reaches
 reaches_map R S each a b (items, leads) = (items, leads_map R S each items a b leads)
 
-module _ (p : NetParts) (ends : List TrackEnds) (homes : List ℕ) (all_ends : AreEndsOf p ends) (new : HasNewNodes p) (all_homes : AreHomes p homes) (once : HoldsOfEach (IsListedOnce p) p.tracks) where
+module _ (p : NetParts) (ends : List TrackEnds) (homes : List ℕ) (all_ends : AreTrackEnds p ends) (new : HasNewNodes p) (all_homes : AreHomes p homes) (once : HoldsOfEach (IsListedOnce p) p.tracks) where
   -- the name of a node where a track has an end
   name_at : (k : ℕ) (e : TrackEnds) (node : ℕ) → slice_get ends k ≡ Some e → (e.from ≡ node) ⊎ (e.to ≡ node) → (name : List ℕ) × IsNode p name node
   name_at k e node there at =
@@ -177,8 +177,8 @@ module _ (p : NetParts) (ends : List TrackEnds) (homes : List ℕ) (all_ends : A
 
   touch_adjoin : (i j : ℕ) → Touch (segments_from ends homes) [] i j → Adjoin p i j
   touch_adjoin i j touch =
-      let first = zipped_at segment_of ends homes i touch.first touch.at_first in
-      let second = zipped_at segment_of ends homes j touch.second touch.at_second in
+      let first = zipped_at track_segment ends homes i touch.first touch.at_first in
+      let second = zipped_at track_segment ends homes j touch.second touch.at_second in
       let at_first : (first.0.from ≡ touch.node) ⊎ (first.0.to ≡ touch.node) = subst (λ (s : Segment). HasEnd s touch.node) (sym first.4) touch.end_of_first in
       let at_second : (second.0.from ≡ touch.node) ⊎ (second.0.to ≡ touch.node) = subst (λ (s : Segment). HasEnd s touch.node) (sym second.4) touch.end_of_second in
       let name = name_at i first.0 touch.node first.2 at_first in
@@ -187,7 +187,7 @@ module _ (p : NetParts) (ends : List TrackEnds) (homes : List ℕ) (all_ends : A
         section = first.1;
         node = name.0;
         in_section = all_homes.each i first.1 first.3;
-        also = subst (λ s. IsOfSection p s j) (sym same) (all_homes.each j second.1 second.3);
+        also = subst (λ s. IsTrackOfSection p s j) (sym same) (all_homes.each j second.1 second.3);
         at_node = at_number p ends all_ends touch.node name.0 name.1 i first.0 first.2 at_first;
         too = at_number p ends all_ends touch.node name.0 name.1 j second.0 second.2 at_second;
       }
@@ -207,10 +207,10 @@ module _ (p : NetParts) (ends : List TrackEnds) (homes : List ℕ) (all_ends : A
       let e = number_at p ends all_ends new node.0 adjoin.node node.1 i adjoin.at_node in
       let f = number_at p ends all_ends new node.0 adjoin.node node.1 j adjoin.too in
       record {
-        first = segment_of e.0 adjoin.section;
-        second = segment_of f.0 adjoin.section;
-        at_first = at_zipped segment_of ends homes i e.0 adjoin.section e.1 (home_of p homes adjoin.section i all_homes once adjoin.in_section);
-        at_second = at_zipped segment_of ends homes j f.0 adjoin.section f.1 (home_of p homes adjoin.section j all_homes once adjoin.also);
+        first = track_segment e.0 adjoin.section;
+        second = track_segment f.0 adjoin.section;
+        at_first = at_zipped track_segment ends homes i e.0 adjoin.section e.1 (home_of p homes adjoin.section i all_homes once adjoin.in_section);
+        at_second = at_zipped track_segment ends homes j f.0 adjoin.section f.1 (home_of p homes adjoin.section j all_homes once adjoin.also);
         one_part = refl;
         node = node.0;
         end_of_first = e.2;
@@ -222,7 +222,7 @@ module _ (p : NetParts) (ends : List TrackEnds) (homes : List ℕ) (all_ends : A
     group_at : (k g : ℕ) → slice_get groups k ≡ Some g → (k < length groups) × (slice_index groups k ≡ g)
     group_at k g is = (slice_get_within groups k g is, get_or_from_slice_get groups k g 0 is)
 
-    group_of : (section k : ℕ) → IsOfSection p section k → (g : ℕ) × (slice_get groups k ≡ Some g)
+    group_of : (section k : ℕ) → IsTrackOfSection p section k → (g : ℕ) × (slice_get groups k ≡ Some g)
     group_of section k of_section =
         let part = mapped_at (λ (t : TrackPart). t.name) p.tracks k of_section.name of_section.is_track in
         let within : k < length groups = subst (λ n. k < n) (sym (len ∙ all_ends.count)) (slice_get_within p.tracks k part.0 part.1) in
@@ -252,8 +252,8 @@ module _ (p : NetParts) (ends : List TrackEnds) (homes : List ℕ) (all_ends : A
         let j = place_of (paired homes groups) (under section b) has_b in
         let first = zipped_at under homes groups i.0 (under section a) i.1 in
         let second = zipped_at under homes groups j.0 (under section b) j.1 in
-        let own : IsOfSection p section i.0 = subst (λ s. IsOfSection p s i.0) (ap (λ (x : Entry). x.key) first.4) (all_homes.each i.0 first.0 first.2) in
-        let also : IsOfSection p section j.0 = subst (λ s. IsOfSection p s j.0) (ap (λ (x : Entry). x.key) second.4) (all_homes.each j.0 second.0 second.2) in
+        let own : IsTrackOfSection p section i.0 = subst (λ s. IsTrackOfSection p s i.0) (ap (λ (x : Entry). x.key) first.4) (all_homes.each i.0 first.0 first.2) in
+        let also : IsTrackOfSection p section j.0 = subst (λ s. IsTrackOfSection p s j.0) (ap (λ (x : Entry). x.key) second.4) (all_homes.each j.0 second.0 second.2) in
         let at = group_at i.0 first.1 first.3 in
         let too = group_at j.0 second.1 second.3 in
         let same = (by_reach i.0 j.0 at.0 too.0).1 (reaches_map (Adjoin p) (Touch (segments_from ends homes) []) adjoin_touch i.0 j.0 (connected i.0 j.0 own also)) in

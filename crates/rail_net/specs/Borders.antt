@@ -10,12 +10,12 @@ use Rattle.rail_net.specs.declared.parts.BorderPart.TheVariants.{Cut, Joint}
 use Rattle.rail_net.specs.declared.parts.NetParts.{NetParts}
 
 -- the track or the node that a border names is there
-abbrev pub IsKnown : NetParts → BorderPart → Type 0
-IsKnown p (Cut track at_m) = IsTrackName p track
-IsKnown p (Joint name) = IsNodeName p name
+abbrev pub NamesKnown : NetParts → BorderPart → Type 0
+NamesKnown p (Cut track at_m) = IsTrackName p track
+NamesKnown p (Joint name) = IsNodeName p name
 
 abbrev pub IsKnownBorder : NetParts → ℕ → BorderPart → Type 0
-IsKnownBorder p place b = IsKnown p b
+IsKnownBorder p place b = NamesKnown p b
 
 -- a track of that name where virtual borders may stand, with the place between its ends
 pub record IsWithinTrack (p : NetParts) (name : List ℕ) (at_m : ℕ) : Type 0 where
@@ -36,7 +36,7 @@ IsFree p node =
     (k : ℕ) (track : TrackPart) → EndsAt p node k → slice_get p.tracks k ≡ Some track → track.virtual_ok ≡ true
 
 -- a joint where a border may stand: its tracks are of one section, and virtual borders may stand on them
-pub record IsCandidate (p : NetParts) (name : List ℕ) : Type 0 where
+pub record IsBorderJoint (p : NetParts) (name : List ℕ) : Type 0 where
   pub joint : IsJoint p name
   pub one_section : IsOfOneSection p name
   pub free : IsFree p name
@@ -44,7 +44,7 @@ pub record IsCandidate (p : NetParts) (name : List ℕ) : Type 0 where
 -- a border may stand there
 abbrev pub StandsWell : NetParts → BorderPart → Type 0
 StandsWell p (Cut track at_m) = IsWithinTrack p track at_m
-StandsWell p (Joint name) = IsCandidate p name
+StandsWell p (Joint name) = IsBorderJoint p name
 
 abbrev pub IsGoodBorder : NetParts → ℕ → BorderPart → Type 0
 IsGoodBorder p place b = StandsWell p b

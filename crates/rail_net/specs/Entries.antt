@@ -7,12 +7,12 @@ abbrev pub HasEntry : List Entry → ℕ → ℕ → Type 0
 HasEntry entries key value = Contains entries (record { key = key; value = value })
 
 -- how many entries are under that key
-abbrev pub count_of : List Entry → ℕ → ℕ
-count_of entries key = count_by (λ e. e.key == key) entries
+abbrev pub entries_under : List Entry → ℕ → ℕ
+entries_under entries key = count_by (λ e. e.key == key) entries
 
 -- the number at each key is that of its entries
 abbrev pub AreCounts : List Entry → List ℕ → Type 0
-AreCounts entries counts = (key : ℕ) → key < length counts → slice_index counts key ≡ count_of entries key
+AreCounts entries counts = (key : ℕ) → key < length counts → slice_index counts key ≡ entries_under entries key
 
 -- the value of an entry under that key, if there is one
 abbrev pub IsValueAt : List Entry → ℕ → Option ℕ → Type 0

@@ -59,7 +59,7 @@ pub record Lists (p : NetParts) (section : ℕ) (name : List ℕ) : Type 0 where
   pub listed : Contains part.tracks name
 
 -- the track of that number is of the section of that number
-pub record IsOfSection (p : NetParts) (section track : ℕ) : Type 0 where
+pub record IsTrackOfSection (p : NetParts) (section track : ℕ) : Type 0 where
   pub name : List ℕ
   pub is_track : IsTrack p name track
   pub listed : Lists p section name

@@ -15,8 +15,8 @@ use Rattle.rail_net.specs.declared.refusal.NetRefusal.{NetRefusal}
 use Rattle.rail_net.specs.declared.refusal.NetRefusal.TheVariants.{Named, Memory}
 
 -- the rule is broken by an item of the list
-abbrev pub at : NetFault → ListKind → ℕ → NetRefusal
-at kind list item = Named kind (record { list = list; item = item })
+abbrev pub broken_by_item : NetFault → ListKind → ℕ → NetRefusal
+broken_by_item kind list item = Named kind (record { list = list; item = item })
 
 abbrev pub Rules : Type 1
 Rules = List (OrderRule NetRefusal)
@@ -31,42 +31,42 @@ HasNewNodes p = HoldsOfEach (HasNewName (λ n. n.name) p.nodes) p.nodes
 -- names are not repeated within a list
 abbrev pub name_rules : NetParts → Rules
 name_rules p =
-    rule_of_each (at DuplicateName Nodes) (HasNewName (λ n. n.name) p.nodes) p.nodes ∷
-    rule_of_each (at DuplicateName Tracks) (HasNewName (λ t. t.name) p.tracks) p.tracks ∷
-    rule_of_each (at DuplicateName Sections) (HasNewName (λ s. s.name) p.sections) p.sections ∷
-    rule_of_each (at DuplicateName Stations) (HasNewName (λ s. s.name) p.stations) p.stations ∷ []
+    rule_of_each (broken_by_item DuplicateName Nodes) (HasNewName (λ n. n.name) p.nodes) p.nodes ∷
+    rule_of_each (broken_by_item DuplicateName Tracks) (HasNewName (λ t. t.name) p.tracks) p.tracks ∷
+    rule_of_each (broken_by_item DuplicateName Sections) (HasNewName (λ s. s.name) p.sections) p.sections ∷
+    rule_of_each (broken_by_item DuplicateName Stations) (HasNewName (λ s. s.name) p.stations) p.stations ∷ []
 
 -- what items refer to is there
 abbrev pub reference_rules : NetParts → Rules
 reference_rules p =
-    rule_of_each (at UnknownName Nodes) (KnowsTracks p) p.nodes ∷
-    rule_of_each (at UnknownName Tracks) (KnowsNodes p) p.tracks ∷
-    rule_of_each (at UnknownName Sections) (ListsTracks p) p.sections ∷
-    rule_of_each (at UnknownName Borders) (IsKnownBorder p) p.borders ∷
-    rule_of_each (at UnknownName Stations) (ListsTracks p) p.stations ∷ []
+    rule_of_each (broken_by_item UnknownName Nodes) (KnowsTracks p) p.nodes ∷
+    rule_of_each (broken_by_item UnknownName Tracks) (KnowsNodes p) p.tracks ∷
+    rule_of_each (broken_by_item UnknownName Sections) (ListsTracks p) p.sections ∷
+    rule_of_each (broken_by_item UnknownName Borders) (IsKnownBorder p) p.borders ∷
+    rule_of_each (broken_by_item UnknownName Stations) (ListsTracks p) p.stations ∷ []
 
 -- tracks and nodes fit together
 abbrev pub node_rules : NetParts → Rules
 node_rules p =
-    rule_of_each (at NodeDegree Nodes) (HasDegree p) p.nodes ∷
-    rule_of_each (at TipNotHere Nodes) (HasTipHere p) p.nodes ∷
-    rule_of_each (at PairsNotHere Nodes) (HasPairsHere p) p.nodes ∷
-    rule_of_each (at LoopTrack Tracks) (IsNoLoop p) p.tracks ∷ []
+    rule_of_each (broken_by_item NodeDegree Nodes) (HasDegree p) p.nodes ∷
+    rule_of_each (broken_by_item TipNotHere Nodes) (HasTipHere p) p.nodes ∷
+    rule_of_each (broken_by_item PairsNotHere Nodes) (HasPairsHere p) p.nodes ∷
+    rule_of_each (broken_by_item LoopTrack Tracks) (IsNoLoop p) p.tracks ∷ []
 
 -- tracks are parted into sections
 abbrev pub section_rules : NetParts → Rules
 section_rules p =
-    rule_of_each (at TrackInNoSection Tracks) (IsListed p) p.tracks ∷
-    rule_of_each (at TrackInTwoSections Tracks) (IsListedOnce p) p.tracks ∷
-    rule_of_each (at SplitSection Nodes) (IsWholeNode p) p.nodes ∷
-    rule_of_each (at SectionApart Sections) (IsConnectedSection p) p.sections ∷ []
+    rule_of_each (broken_by_item TrackInNoSection Tracks) (IsListed p) p.tracks ∷
+    rule_of_each (broken_by_item TrackInTwoSections Tracks) (IsListedOnce p) p.tracks ∷
+    rule_of_each (broken_by_item SplitSection Nodes) (IsWholeNode p) p.nodes ∷
+    rule_of_each (broken_by_item SectionApart Sections) (IsConnectedSection p) p.sections ∷ []
 
 -- borders stand well, and numbers are in their ranges
 abbrev pub number_rules : NetParts → Rules
 number_rules p =
-    rule_of_each (at BorderPlace Borders) (IsGoodBorder p) p.borders ∷
-    rule_of_each (at LengthRange Tracks) (HasGoodLength p) p.tracks ∷
-    rule_of_each (at LimitRange Tracks) (HasGoodLimit p) p.tracks ∷ []
+    rule_of_each (broken_by_item BorderPlace Borders) (IsGoodBorder p) p.borders ∷
+    rule_of_each (broken_by_item LengthRange Tracks) (HasGoodLength p) p.tracks ∷
+    rule_of_each (broken_by_item LimitRange Tracks) (HasGoodLimit p) p.tracks ∷ []
 
 -- all rules, in their order
 abbrev pub net_rules : NetParts → Rules

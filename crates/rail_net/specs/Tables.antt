@@ -1,7 +1,7 @@
 -- What is kept of a network's names, ends and listings by numbers.
 use Rattle.std.specs.Prelude.{◌≡◌, ◌↔◌, ◌+◌, ◌++◌, ℕ, Bool, false, if◌then◌else◌, List, [], ◌∷◌, map, Some, length, slice_get, slice_index, count_by, bytes_eq, ⊤}
 use Rattle.node_groups.specs.declared.segments.Segment.{Segment}
-use Rattle.rail_net.specs.Parts.{IsNode, IsTrack, IsOfSection, Stated, stated_by, listings, node_names, track_names, station_names}
+use Rattle.rail_net.specs.Parts.{IsNode, IsTrack, IsTrackOfSection, Stated, stated_by, listings, node_names, track_names, station_names}
 use Rattle.rail_net.specs.Rules.{begin_count, end_count}
 use Rattle.rail_net.specs.Sections.{IsOfOneSection, IsConnected}
 use Rattle.rail_net.specs.Borders.{IsFree}
@@ -25,7 +25,7 @@ pub record AreNodes (nodes : List (List ℕ)) (t : TrackPart) (e : TrackEnds) : 
   pub to : slice_get nodes e.to ≡ Some t.to
 
 -- the numbers of the nodes of each track
-pub record AreEndsOf (p : NetParts) (ends : List TrackEnds) : Type 0 where
+pub record AreTrackEnds (p : NetParts) (ends : List TrackEnds) : Type 0 where
   pub count : length ends ≡ length p.tracks
   pub each : (k : ℕ) (t : TrackPart) (e : TrackEnds) → slice_get p.tracks k ≡ Some t → slice_get ends k ≡ Some e → AreNodes (node_names p) t e
 
@@ -48,7 +48,7 @@ AddsListings tracks section names old new =
 -- the section of each track
 pub record AreHomes (p : NetParts) (homes : List ℕ) : Type 0 where
   pub count : length homes ≡ length p.tracks
-  pub each : (track section : ℕ) → slice_get homes track ≡ Some section → IsOfSection p section track
+  pub each : (track section : ℕ) → slice_get homes track ≡ Some section → IsTrackOfSection p section track
 
 -- what two lists give in pairs
 abbrev pub zipped : {X Y Z : Type 0} → (X → Y → Z) → List X → List Y → List Z
@@ -57,10 +57,10 @@ zipped f (x ∷ xs) [] = []
 zipped f (x ∷ xs) (y ∷ ys) = f x y ∷ zipped f xs ys
 
 -- what two lists give in pairs, each pair a list
-abbrev pub joined : {X Y Z : Type 0} → (X → Y → List Z) → List X → List Y → List Z
-joined f [] ys = []
-joined f (x ∷ xs) [] = []
-joined f (x ∷ xs) (y ∷ ys) = f x y ++ joined f xs ys
+abbrev pub joined_pairs : {X Y Z : Type 0} → (X → Y → List Z) → List X → List Y → List Z
+joined_pairs f [] ys = []
+joined_pairs f (x ∷ xs) [] = []
+joined_pairs f (x ∷ xs) (y ∷ ys) = f x y ++ joined_pairs f xs ys
 
 -- an entry
 abbrev pub under : ℕ → ℕ → Entry
@@ -75,21 +75,21 @@ abbrev pub under_both : TrackEnds → ℕ → List Entry
 under_both e value = under e.from value ∷ under e.to value ∷ []
 
 abbrev pub spread : List TrackEnds → List ℕ → List Entry
-spread ends values = joined under_both ends values
+spread ends values = joined_pairs under_both ends values
 
 -- 1 for a track where no virtual border may stand, and else 0
-abbrev pub flag_of : TrackPart → ℕ
-flag_of t = if t.virtual_ok then 0 else 1
+abbrev pub border_flag : TrackPart → ℕ
+border_flag t = if t.virtual_ok then 0 else 1
 
 abbrev pub flags_of : List TrackPart → List ℕ
-flags_of ts = map flag_of ts
+flags_of ts = map border_flag ts
 
 -- each track as a segment of its section, between the numbers of its nodes
-abbrev pub segment_of : TrackEnds → ℕ → Segment
-segment_of e home = record { low = e.from; high = e.to; part = home }
+abbrev pub track_segment : TrackEnds → ℕ → Segment
+track_segment e home = record { low = e.from; high = e.to; part = home }
 
 abbrev pub segments_from : List TrackEnds → List ℕ → List Segment
-segments_from ends homes = zipped segment_of ends homes
+segments_from ends homes = zipped track_segment ends homes
 
 -- how many tracks begin and end at each node
 pub record AreDegrees (p : NetParts) (begins ends : List ℕ) : Type 0 where

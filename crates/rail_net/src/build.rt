@@ -4,7 +4,7 @@ ghost use Rattle.std.specs.Prelude.{IfOk, IfErr};
 ghost use Rattle.vss_lists.specs.Orders.{AreKept};
 ghost use Rattle.rail_net.specs.Parts.{HasFewItems};
 ghost use Rattle.rail_net.specs.Refusals.{HasNewNodes, HasNewTracks, Refuses, net_rules, node_rules, number_rules, reference_rules, section_rules};
-ghost use Rattle.rail_net.specs.Tables.{AreEndsOf, AreHomes, AreListings, AreNamesOf, AreSplits, IsIndexOf};
+ghost use Rattle.rail_net.specs.Tables.{AreTrackEnds, AreHomes, AreListings, AreNamesOf, AreSplits, IsIndexOf};
 
 use crate::ends::{TrackEnds, ends_of};
 use crate::entries::Entry;
@@ -64,7 +64,7 @@ struct Found {
 fn test_references(alloc: Global, parts: &NetParts, names: &NetNames) -> Result<Found, NetRefusal>
     requires few { HasFewItems parts.now }
     requires names { AreNamesOf parts.now names.now }
-    ensures ends { IfOk result (λ found. AreEndsOf parts.now found.ends.items) }
+    ensures ends { IfOk result (λ found. AreTrackEnds parts.now found.ends.items) }
     ensures listings { IfOk result (λ found. AreListings parts.now found.listings.items) }
     ensures kept { IfOk result (λ _. AreKept (reference_rules parts.now)) }
     ensures refusal { IfErr result (Refuses (reference_rules parts.now)) }
@@ -103,7 +103,7 @@ fn test_nodes(
     requires names { AreNamesOf parts.now names.now }
     requires new_nodes { HasNewNodes parts.now }
     requires new_tracks { HasNewTracks parts.now }
-    requires ends { AreEndsOf parts.now ends.now }
+    requires ends { AreTrackEnds parts.now ends.now }
     ensures kept { IfOk result (λ _. AreKept (node_rules parts.now)) }
     ensures refusal { IfErr result (Refuses (node_rules parts.now)) }
 {
@@ -146,7 +146,7 @@ fn test_sections(
     requires few { HasFewItems parts.now }
     requires new_nodes { HasNewNodes parts.now }
     requires new_tracks { HasNewTracks parts.now }
-    requires ends { AreEndsOf parts.now ends.now }
+    requires ends { AreTrackEnds parts.now ends.now }
     requires listings { AreListings parts.now listings.now }
     ensures homes { IfOk result (λ parted. AreHomes parts.now parted.homes.items) }
     ensures splits { IfOk result (λ parted. AreSplits parts.now parted.splits.items) }
@@ -193,7 +193,7 @@ fn test_numbers(
     requires names { AreNamesOf parts.now names.now }
     requires new_nodes { HasNewNodes parts.now }
     requires new_tracks { HasNewTracks parts.now }
-    requires ends { AreEndsOf parts.now ends.now }
+    requires ends { AreTrackEnds parts.now ends.now }
     requires splits { AreSplits parts.now splits.now }
     ensures kept { IfOk result (λ _. AreKept (number_rules parts.now)) }
     ensures refusal { IfErr result (Refuses (number_rules parts.now)) }

@@ -5,7 +5,7 @@ ghost use Rattle.vss_lists.specs.Breaks.{HoldsOfEach};
 ghost use Rattle.rail_net.specs.Breaks.{IsBreak};
 ghost use Rattle.rail_net.specs.Parts.{HasFewItems};
 ghost use Rattle.rail_net.specs.Rules.{HasNodes, KnowsNodes};
-ghost use Rattle.rail_net.specs.Tables.{AreEndsOf, AreNamesOf, AreNodes};
+ghost use Rattle.rail_net.specs.Tables.{AreTrackEnds, AreNamesOf, AreNodes};
 
 use crate::names::Break;
 use crate::parts::{NetParts, TrackPart};
@@ -27,7 +27,7 @@ pub(crate) fn ends_of(
 ) -> Result<Vec<TrackEnds>, Break>
     requires few { HasFewItems parts.now }
     requires names { AreNamesOf parts.now names.now }
-    ensures ends { IfOk result (λ ends. AreEndsOf parts.now ends.items) }
+    ensures ends { IfOk result (λ ends. AreTrackEnds parts.now ends.items) }
     ensures known { IfOk result (λ _. HoldsOfEach (KnowsNodes parts.now) parts.now.tracks) }
     ensures unknown { IfErr result (IsBreak (KnowsNodes parts.now) parts.now.tracks) }
 {

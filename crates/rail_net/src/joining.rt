@@ -3,7 +3,7 @@
 ghost use Rattle.std.specs.Prelude.{◌≡◌, ◌<◌, ◌^◌, IfOk, length, []};
 ghost use Rattle.node_groups.specs.Groups.{GroupsByReach};
 ghost use Rattle.node_groups.specs.Touch.{Touch};
-ghost use Rattle.rail_net.specs.Tables.{flag_of, flags_of, paired as paired_entries, segments_from, spread as spread_entries};
+ghost use Rattle.rail_net.specs.Tables.{border_flag, flags_of, paired as paired_entries, segments_from, spread as spread_entries};
 
 use crate::ends::TrackEnds;
 use crate::entries::Entry;
@@ -62,7 +62,7 @@ pub(crate) fn flags(alloc: Global, tracks: &[TrackPart]) -> Result<Vec<u32>, All
 }
 
 fn flag(track: &TrackPart) -> u32
-    ensures { result ≡ flag_of track.now }
+    ensures { result ≡ border_flag track.now }
 {
     if track.virtual_ok { 0 } else { 1 }
 }

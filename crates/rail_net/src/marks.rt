@@ -6,7 +6,7 @@ ghost use Rattle.vss_lists.specs.Breaks.{HoldsOfEach};
 ghost use Rattle.rail_net.specs.Parts.{HasFewItems};
 ghost use Rattle.rail_net.specs.Refusals.{HasNewNodes, HasNewTracks};
 ghost use Rattle.rail_net.specs.Rules.{IsListedOnce};
-ghost use Rattle.rail_net.specs.Tables.{AreMarkedApart, AreBars, AreDegrees, AreEndsOf, AreHomes, AreListingCounts, AreListings, AreSplits, flags_of, spread as spread_entries, zero_under};
+ghost use Rattle.rail_net.specs.Tables.{AreMarkedApart, AreBars, AreDegrees, AreTrackEnds, AreHomes, AreListingCounts, AreListings, AreSplits, flags_of, spread as spread_entries, zero_under};
 
 use crate::ends::{TrackEnds, begin_counts, end_counts};
 use crate::entries::{Entry, counts, mixed};
@@ -28,7 +28,7 @@ pub(crate) fn degrees_of(
     ends: &[TrackEnds],
 ) -> Result<Degrees, AllocError>
     requires new { HasNewNodes parts.now }
-    requires ends { AreEndsOf parts.now ends.now }
+    requires ends { AreTrackEnds parts.now ends.now }
     ensures { IfOk result (λ d. AreDegrees parts.now d.begins.items d.ends.items) }
 {
     let nodes = parts.nodes.len();
@@ -59,7 +59,7 @@ pub(crate) fn splits_of(
     homes: &[u32],
 ) -> Result<Vec<bool>, AllocError>
     requires new { HasNewNodes parts.now }
-    requires ends { AreEndsOf parts.now ends.now }
+    requires ends { AreTrackEnds parts.now ends.now }
     requires homes { AreHomes parts.now homes.now }
     requires once { HoldsOfEach (IsListedOnce parts.now) parts.now.tracks }
     ensures { IfOk result (λ marks. AreSplits parts.now marks.items) }
@@ -78,7 +78,7 @@ pub(crate) fn bars_of(
 ) -> Result<Vec<bool>, AllocError>
     requires few { HasFewItems parts.now }
     requires new { HasNewNodes parts.now }
-    requires ends { AreEndsOf parts.now ends.now }
+    requires ends { AreTrackEnds parts.now ends.now }
     ensures { IfOk result (λ marks. AreBars parts.now marks.items) }
 {
     let entries = bar_entries(alloc, parts, ends)?;
@@ -93,7 +93,7 @@ fn bar_entries(
     ends: &[TrackEnds],
 ) -> Result<Vec<Entry>, AllocError>
     requires few { HasFewItems parts.now }
-    requires ends { AreEndsOf parts.now ends.now }
+    requires ends { AreTrackEnds parts.now ends.now }
     ensures { IfOk result (λ entries. entries.items ≡ map zero_under (range_with_len 0 (length parts.now.nodes)) ++ spread_entries ends.now (flags_of parts.now.tracks)) }
 {
     let flags = flags(alloc, parts.tracks.as_slice())?;
@@ -123,7 +123,7 @@ pub(crate) fn apart_of(
 ) -> Result<Vec<bool>, AllocError>
     requires few { HasFewItems parts.now }
     requires new { HasNewNodes parts.now }
-    requires ends { AreEndsOf parts.now ends.now }
+    requires ends { AreTrackEnds parts.now ends.now }
     requires homes { AreHomes parts.now homes.now }
     requires once { HoldsOfEach (IsListedOnce parts.now) parts.now.tracks }
     ensures { IfOk result (λ marks. AreMarkedApart parts.now marks.items) }

@@ -1,7 +1,7 @@
 //! Networks: parts that keep every rule.
 
 ghost use Rattle.std.specs.Prelude.{◌≡◌, ◌<◌, ◌↔◌, ◌⊎◌, ℕ, length, IsTrue, IfErr, IfOk, MatchOption};
-ghost use Rattle.rail_net.specs.Parts.{AreNamed, HasFewItems, IsNode, IsOfSection, IsStation, IsTrack};
+ghost use Rattle.rail_net.specs.Parts.{AreNamed, HasFewItems, IsNode, IsTrackOfSection, IsStation, IsTrack};
 ghost use Rattle.rail_net.specs.Passages.{ArePair, HasPassage, IsAtNode, LeadsOver};
 ghost use Rattle.rail_net.specs.Refusals.{IsNet, Refuses, net_rules};
 
@@ -83,8 +83,8 @@ impl Net {
     /// The number of the section that lists the track of that number.
     pub fn section_of(&self, track: u32) -> u32
         requires { track < length self.now.tracks }
-        ensures section { IsOfSection self.now result track }
-        ensures only { (section : ℕ) → IsOfSection self.now section track → section ≡ result }
+        ensures section { IsTrackOfSection self.now result track }
+        ensures only { (section : ℕ) → IsTrackOfSection self.now section track → section ≡ result }
     {
         let homes = self.index.homes.as_slice();
         homes[track as usize]

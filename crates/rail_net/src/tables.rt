@@ -7,7 +7,7 @@ ghost use Rattle.rail_net.specs.Breaks.{IsBreak, refusal_of};
 ghost use Rattle.rail_net.specs.Parts.{HasFewItems, node_names, section_names, station_names, track_names};
 ghost use Rattle.rail_net.specs.Rules.{HasNewName};
 ghost use Rattle.rail_net.specs.Tables.{AreNamesOf};
-ghost use Rattle.rail_net.specs.Refusals.{name_rules, Refuses, at};
+ghost use Rattle.rail_net.specs.Refusals.{name_rules, Refuses, broken_by_item};
 
 use crate::names::{Break, NameIndex, Named, index_of};
 use crate::parts::{GroupPart, NetParts, NodePart, TrackPart};
@@ -108,7 +108,7 @@ pub(crate) fn refused(found: Break, kind: NetFault, list: ListKind) -> NetRefusa
 
 /// The refusal of an item.
 pub(crate) fn named(kind: NetFault, list: ListKind, item: u32) -> NetRefusal
-    ensures { result ≡ at kind list item }
+    ensures { result ≡ broken_by_item kind list item }
 {
     NetRefusal::Named {
         kind,

@@ -22,7 +22,8 @@ pub struct Formula {
 
 impl Model for Formula {
     ghost use Rattle.std.specs.Prelude.{◌-◌, vec_len, vec_capacity};
-    ghost use Rattle.sat_core.specs.Storage.{FormulaParts, pieces, IsStored};
+    ghost use Rattle.vss_rows.specs.Pieces.{pieces};
+    ghost use Rattle.sat_core.specs.Storage.{FormulaParts, IsStored};
 
     ghost Value = { FormulaParts };
 
@@ -31,7 +32,7 @@ impl Model for Formula {
     ghost invariant = { λ f. IsStored f.vars f.lits.items f.ends.items };
 }
 
-#[tactic(auto, using(crate::proofs::StorageLemmas::stored_laws))]
+#[tactic(auto, using(vss_rows::proofs::PieceLaws::rows_laws))]
 impl Formula {
     /// The formula of no clauses, over the variables 1 to `vars`.
     pub fn new(alloc: Global, vars: u32) -> Formula

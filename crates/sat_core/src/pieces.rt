@@ -3,12 +3,12 @@
 ghost use Rattle.std.specs.Prelude.{◌≡◌, ◌<◌, ◌↔◌, List, length, IsTrue, All, slice_get, slice_index_or};
 ghost use Rattle.sat_core.specs.Clauses.{IsOver, IsClause, IsTrueIn, Satisfies, SatisfiesAll};
 ghost use Rattle.sat_core.specs.declared.literal.Lit.{Lit};
-ghost use Rattle.sat_core.specs.Storage.{pieces, begin_of, RisesTo};
+ghost use Rattle.vss_rows.specs.Pieces.{pieces, begin_of, RisesTo};
 
 use crate::literal::Lit;
 
 /// The piece that ends at the end with that place.
-#[tactic(auto, using(crate::proofs::StorageLemmas::piece_laws))]
+#[tactic(auto, using(vss_rows::proofs::PieceLaws::piece_laws))]
 pub(crate) fn piece<'a>(row: &'a [Lit], ends: &[usize], place: usize) -> &'a [Lit]
     requires rising { RisesTo 0 ends.now (length row.now) }
     requires within { place < length ends.now }

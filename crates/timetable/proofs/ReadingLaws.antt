@@ -1,7 +1,7 @@
 -- For a network bytes have one reading: two refusals, or a refusal and a timetable, are never both right.
 use Rattle.std.proofs.Common.{◌≡◌, ℕ, List, Ok, Err, refl, sym, ap, subst, arith}
 use Rattle.vss_json.proofs.DocumentLaws.{one_missed, one_stated, stated_not_missed}
-use Rattle.vss_json.specs.Documents.{IsNoJson, Misses, States}
+use Rattle.vss_json.specs.Documents.{IsNoJson, MissesShape, States}
 use Rattle.vss_json.specs.declared.fault.ShapeFault.{ShapeFault}
 use Rattle.vss_lists.proofs.OrderLaws.{AreSound, not_kept, one_broken, sound_each, sound_rule}
 use Rattle.vss_lists.specs.Orders.{AreKept, IsFirstBroken}
@@ -28,7 +28,7 @@ same_entries = one_stated document
 not_stated : (bytes : List ℕ) (e : Entries) → IsNoJson bytes → ¬ States document bytes e
 not_stated bytes e none states = none states.value states.is_json
 
-not_missed : (bytes : List ℕ) (fault : ShapeFault TimeMember) → IsNoJson bytes → ¬ Misses document bytes fault
+not_missed : (bytes : List ℕ) (fault : ShapeFault TimeMember) → IsNoJson bytes → ¬ MissesShape document bytes fault
 not_missed bytes fault none misses = none misses.value misses.is_json
 
 -- entries that break a rule don't keep the rules

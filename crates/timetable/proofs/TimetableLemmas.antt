@@ -14,7 +14,7 @@ use Rattle.rail_net.specs.declared.parts.GroupPart.{GroupPart}
 use Rattle.rail_net.specs.declared.parts.NetParts.{NetParts}
 use Rattle.rail_net.specs.declared.parts.NodeKind.TheVariants as kind
 use Rattle.rail_net.specs.declared.parts.NodePart.{NodePart}
-use Rattle.timetable.specs.Document.{HasFewEntries, HasFewStops}
+use Rattle.timetable.specs.Document.{HasFewEntries, HasFewStopEntries}
 use Rattle.timetable.specs.Places.{IsBetweenEnds, IsEndName, IsStopFor, IsTimetableFor, IsTrainFor}
 use Rattle.timetable.specs.Ranges.{AreGoodSteps, IsGoodIfThere, IsGoodLength, IsGoodSpeed, IsGoodTime}
 use Rattle.timetable.specs.Rules.{HasGoodNumbers, HasGoodTimes, time_rules}
@@ -64,7 +64,7 @@ stops_kept p es ss pairs good k d within =
     stop_kept p e s pair.2 times
 
 -- a train of the network, from its entry
-train_kept : (p : NetParts) (e : TrainEntry) (t : TrainPart) → IsNet p → IsTrainFor p e t → IsName e.name → IsBetweenEnds p e → HasGoodNumbers e → HasFewStops e → IsTrainOf p t
+train_kept : (p : NetParts) (e : TrainEntry) (t : TrainPart) → IsNet p → IsTrainFor p e t → IsName e.name → IsBetweenEnds p e → HasGoodNumbers e → HasFewStopEntries e → IsTrainOf p t
 train_kept p e t net is named ends good few = record {
   name = subst IsName (sym is.name) named;
   from = end_node p e.from t.from net ends.from is.from;
@@ -83,7 +83,7 @@ trains_kept p e ts net few kept pairs k d within =
     let t = get_or ts k d in
     let pair = zip_at (IsTrainFor p) e.trains ts pairs k t (slice_get-get_or ts k d within) in
     let x : TrainEntry = pair.0 in
-    let few_stops : HasFewStops x = subst HasFewStops (get_or_from_slice_get e.trains k x x pair.1) (few.stops k x (slice_get_within e.trains k x pair.1)) in
+    let few_stops : HasFewStopEntries x = subst HasFewStopEntries (get_or_from_slice_get e.trains k x x pair.1) (few.stops k x (slice_get_within e.trains k x pair.1)) in
     train_kept p x t net pair.2 (kept.0.at_each k x pair.1) (kept.1.1.1.1.0.at_each k x pair.1) (kept.1.1.1.1.1.1.0.at_each k x pair.1) few_stops
 
 steps_kept : (e : Entries) (t : Timetable) → t.space_step_m ≡ e.space_step_m → t.time_step_s ≡ e.time_step_s → t.horizon_s ≡ e.horizon_s

@@ -61,10 +61,10 @@ document d = do
   Ok (record { space_step_m = space_step_m; time_step_s = time_step_s; horizon_s = horizon_s; trains = trains })
 
 -- fewer than 4,294,967,296 stops
-abbrev pub HasFewStops : TrainEntry → Type 0
-HasFewStops t = length t.stops < 2 ^ 32
+abbrev pub HasFewStopEntries : TrainEntry → Type 0
+HasFewStopEntries t = length t.stops < 2 ^ 32
 
 -- fewer than 4,294,967,296 trains, and stops of each
 pub record HasFewEntries (e : Entries) : Type 0 where
   pub trains : length e.trains < 2 ^ 32
-  pub stops : All HasFewStops e.trains
+  pub stops : All HasFewStopEntries e.trains

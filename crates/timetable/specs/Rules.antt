@@ -43,8 +43,8 @@ abbrev pub TimeRules : Type 1
 TimeRules = List (OrderRule RuleRefusal)
 
 -- the steps are in their ranges
-abbrev pub HasGoodSteps : Entries → Type 0
-HasGoodSteps e = AreGoodSteps e.space_step_m e.time_step_s e.horizon_s
+abbrev pub HasGoodStepEntries : Entries → Type 0
+HasGoodStepEntries e = AreGoodSteps e.space_step_m e.time_step_s e.horizon_s
 
 -- all rules, in their order
 abbrev pub time_rules : NetParts → Entries → TimeRules
@@ -54,7 +54,7 @@ time_rules p e =
     rule_of_each (in_train DuplicateName) (HasNewName (λ t. t.name) e.trains) e.trains ∷
     rule_of_each (in_train UnknownName) (λ train t. KnowsPlaces p t) e.trains ∷
     rule_of_each (in_train EndWanted) (λ train t. IsBetweenEnds p t) e.trains ∷
-    rule (in_list StepRange list.Document 0) (HasGoodSteps e) ∷
+    rule (in_list StepRange list.Document 0) (HasGoodStepEntries e) ∷
     rule_of_each (in_train TrainRange) (λ train t. HasGoodNumbers t) e.trains ∷ []
 
 -- the refusal tells the first of the rules that is broken; want of memory says nothing of them

@@ -3,7 +3,7 @@
 ghost use Rattle.std.specs.Prelude.{◌≡◌, IfOk};
 ghost use Rattle.vss_json.specs.Values.{json_of};
 ghost use Rattle.vss_json.specs.Readings.{Gives};
-ghost use Rattle.timetable.specs.Document.{HasFewEntries, HasFewStops, at as fault_at, document, stop_at, train_at};
+ghost use Rattle.timetable.specs.Document.{HasFewEntries, HasFewStopEntries, at as fault_at, document, stop_at, train_at};
 
 use crate::entries::{Entries, StopEntry, TrainEntry};
 use crate::refusal::TimeMember;
@@ -65,7 +65,7 @@ struct Trains {
 impl Reader<TrainEntry, TimeMember> for Trains {
     ghost reading = { λ r. train_at r.horizon_s };
 
-    ghost keeps = { λ r. HasFewStops };
+    ghost keeps = { λ r. HasFewStopEntries };
 
     fn read(&self, alloc: Global, value: &Json, item: u32) -> Walk<TrainEntry> {
         train(alloc, value, item, self.horizon_s)
@@ -75,7 +75,7 @@ impl Reader<TrainEntry, TimeMember> for Trains {
 #[tactic(auto, unfolding(crate::specs::Document::train_at))]
 fn train(alloc: Global, value: &Json, train: u32, horizon_s: u64) -> Walk<TrainEntry>
     ensures read { Gives (train_at horizon_s train (json_of value.now)) result }
-    ensures few { IfOk result HasFewStops }
+    ensures few { IfOk result HasFewStopEntries }
 {
     object(value, at(TimeMember::Trains, train))?;
     let name = text(alloc, value, "name", at(TimeMember::TrainsName, train))?;

@@ -4,7 +4,7 @@ ghost use Rattle.std.specs.Prelude.{◌≡◌, ◌<◌, ◌^◌, ◌↔◌, leng
 ghost use Rattle.std.specs.List.{AllZip};
 ghost use Rattle.rail_net.specs.Breaks.{IsBreak};
 ghost use Rattle.rail_net.specs.declared.parts.NodeKind.TheVariants.{EndNode};
-ghost use Rattle.timetable.specs.Document.{HasFewStops};
+ghost use Rattle.timetable.specs.Document.{HasFewStopEntries};
 ghost use Rattle.timetable.specs.Places.{IsEndName, IsMiss, IsStopFor, IsTrainFor, KnowsPlaces, KnowsStation};
 
 use crate::entries::{StopEntry, TrainEntry};
@@ -31,7 +31,7 @@ pub(crate) fn trains_of(
     entries: &[TrainEntry],
 ) -> Result<Items<TrainPart>, Break>
     requires few { length entries.now < 2 ^ 32 }
-    requires few_stops { All HasFewStops entries.now }
+    requires few_stops { All HasFewStopEntries entries.now }
     ensures trains { IfOk result (AllZip (IsTrainFor net.now) entries.now) }
     ensures unknown { IfErr result (IsBreak (λ place t. KnowsPlaces net.now t) entries.now) }
 {

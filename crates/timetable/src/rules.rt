@@ -8,7 +8,7 @@ ghost use Rattle.vss_names.specs.Names.{IsName};
 ghost use Rattle.timetable.specs.Document.{HasFewEntries};
 ghost use Rattle.timetable.specs.Places.{IsBetweenEnds, IsTrainFor};
 ghost use Rattle.timetable.specs.Ranges.{AreGoodSteps, IsGoodIfThere};
-ghost use Rattle.timetable.specs.Rules.{HasGoodNumbers, HasGoodSteps, HasGoodTimes, Tells, in_list as refusal_in, in_train as refusal_of_train, time_rules};
+ghost use Rattle.timetable.specs.Rules.{HasGoodNumbers, HasGoodStepEntries, HasGoodTimes, Tells, in_list as refusal_in, in_train as refusal_of_train, time_rules};
 
 use crate::entries::{Entries, StopEntry, TrainEntry};
 use crate::parts::TrainPart;
@@ -168,7 +168,7 @@ impl<'a> Rule<TrainEntry> for EndsRule<'a> {
 
 /// Whether the steps are in their ranges.
 fn has_good_steps(entries: &Entries) -> bool
-    ensures { IsTrue result ↔ HasGoodSteps entries.now }
+    ensures { IsTrue result ↔ HasGoodStepEntries entries.now }
 {
     let space_fits = 1 <= entries.space_step_m && entries.space_step_m <= LONGEST_STEP_M;
     let time_fits = 1 <= entries.time_step_s && entries.time_step_s <= LONGEST_STEP_S;

@@ -3,7 +3,7 @@ use Rattle.std.proofs.Common.{◌≡◌, ◌<◌, ℕ, List, [], ◌∷◌, leng
 use Rattle.std.proofs.lemmas.Option.{same_Some}
 use Rattle.serde_json.proofs.OnLiterals.{serde_json_on_literals}
 use Rattle.serde_json.specs.Read.{read}
-use Rattle.vss_json.specs.Documents.{States, Misses}
+use Rattle.vss_json.specs.Documents.{States, MissesShape}
 use Rattle.vss_json.specs.Readings.{Reading}
 use Rattle.vss_json.specs.Values.{Json, IsJson}
 use Rattle.vss_json.specs.declared.fault.ShapeFault.{ShapeFault}
@@ -48,11 +48,11 @@ one_stated reading bytes x y first second =
     same_ok (reading second.value) x y (sym (same_reading reading bytes first.value second.value first.is_json second.is_json) ∙ first.reads) second.reads
 
 -- bytes have one first fault of shape
-pub one_missed : {M X : Type 0} (reading : Json → Reading X M) (bytes : List ℕ) (f g : ShapeFault M) → Misses reading bytes f → Misses reading bytes g → f ≡ g
+pub one_missed : {M X : Type 0} (reading : Json → Reading X M) (bytes : List ℕ) (f g : ShapeFault M) → MissesShape reading bytes f → MissesShape reading bytes g → f ≡ g
 one_missed reading bytes f g first second =
     same_err (reading second.value) f g (sym (same_reading reading bytes first.value second.value first.is_json second.is_json) ∙ first.misses) second.misses
 
 -- bytes that state something have no fault of shape
-pub stated_not_missed : {M X : Type 0} (reading : Json → Reading X M) (bytes : List ℕ) (x : X) (f : ShapeFault M) → States reading bytes x → ¬ Misses reading bytes f
+pub stated_not_missed : {M X : Type 0} (reading : Json → Reading X M) (bytes : List ℕ) (x : X) (f : ShapeFault M) → States reading bytes x → ¬ MissesShape reading bytes f
 stated_not_missed reading bytes x f first second =
     never_both (reading second.value) x f (sym (same_reading reading bytes first.value second.value first.is_json second.is_json) ∙ first.reads) second.misses

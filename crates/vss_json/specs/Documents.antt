@@ -13,7 +13,7 @@ pub record States {M X : Type 0} (reading : Json → Reading X M) (bytes : List 
   pub reads : reading value ≡ Ok x
 
 -- the bytes are the text of a value with that first fault of shape
-pub record Misses {M X : Type 0} (reading : Json → Reading X M) (bytes : List ℕ) (fault : ShapeFault M) : Type 0 where
+pub record MissesShape {M X : Type 0} (reading : Json → Reading X M) (bytes : List ℕ) (fault : ShapeFault M) : Type 0 where
   pub value : Json
   pub is_json : IsJson bytes value
   pub misses : reading value ≡ Err fault
@@ -27,5 +27,5 @@ IsNoJson bytes = (value : Json) → ¬ IsJson bytes value
 abbrev pub IsDocument : {M X : Type 0} → (Json → Reading X M) → List ℕ → Result X (DocumentFault M) → Type 0
 IsDocument reading bytes (Ok x) = States reading bytes x
 IsDocument reading bytes (Err NotJson) = IsNoJson bytes
-IsDocument reading bytes (Err (Shape fault)) = Misses reading bytes fault
+IsDocument reading bytes (Err (Shape fault)) = MissesShape reading bytes fault
 IsDocument reading bytes (Err Memory) = 0 < length bytes

@@ -1,3 +1,3 @@
 -- The lemmas and laws of `vss_rows`, each file a subject.
-mod PieceLemmas
+pub mod PieceLaws
 pub mod JoinedLaws

@@ -27,7 +27,7 @@ impl<T> Model for Rows<T> {
     ghost invariant = { λ r. RisesTo 0 r.ends.items (length r.items.items) };
 }
 
-#[tactic(auto, using(crate::proofs::PieceLemmas::rows_laws))]
+#[tactic(auto, using(crate::proofs::PieceLaws::rows_laws))]
 impl<T> Rows<T> {
     /// No lists; takes no memory.
     pub fn new(alloc: Global) -> Rows<T>
@@ -82,7 +82,7 @@ fn end_behind(before: usize, more: usize) -> Result<u32, AllocError>
 }
 
 /// The piece of the row with that place, where the pieces end at these places.
-#[tactic(auto, using(crate::proofs::PieceLemmas::piece_laws))]
+#[tactic(auto, using(crate::proofs::PieceLaws::piece_laws))]
 fn piece<'a, T>(row: &'a [T], ends: &[u32], place: usize) -> &'a [T]
     requires rising { RisesTo 0 ends.now (length row.now) }
     requires within { place < length ends.now }

@@ -2,7 +2,7 @@
 
 ghost use Rattle.std.specs.Prelude.{◌≡◌, ◌↔◌, true, false, IsTrue, MatchOption};
 ghost use Rattle.vss_lists.specs.Breaks.{BreaksFirstAt, HoldsOfEach};
-ghost use Rattle.rail_net.specs.Borders.{IsCandidate, IsGoodBorder, IsWithinTrack, StandsWell};
+ghost use Rattle.rail_net.specs.Borders.{IsBorderJoint, IsGoodBorder, IsWithinTrack, StandsWell};
 ghost use Rattle.rail_net.specs.Parts.{HasFewItems};
 ghost use Rattle.rail_net.specs.Tables.{AreStands};
 ghost use Rattle.rail_net.specs.declared.parts.NodeKind.TheVariants.{Joint};
@@ -110,7 +110,7 @@ fn is_candidate(
     name: &str,
 ) -> bool
     requires { AreStands parts.now names.now splits.now bars.now }
-    ensures { IsTrue result ↔ IsCandidate parts.now name.now }
+    ensures { IsTrue result ↔ IsBorderJoint parts.now name.now }
 {
     match names.nodes.number_of(name) {
         Some(number) => {

@@ -5,7 +5,7 @@ ghost use Rattle.vss_lists.specs.Breaks.{BreaksFirstAt, HoldsOfEach};
 ghost use Rattle.rail_net.specs.Parts.{HasFewItems};
 ghost use Rattle.rail_net.specs.Refusals.{HasNewTracks};
 ghost use Rattle.rail_net.specs.Rules.{FourDiffer, HasDegree, HasPairs, HasPairsHere, HasTip, HasTipHere, IsHere, degree as degree_of};
-ghost use Rattle.rail_net.specs.Sections.{IsWhole, IsWholeNode};
+ghost use Rattle.rail_net.specs.Sections.{IsOneSection, IsWholeNode};
 ghost use Rattle.rail_net.specs.Tables.{AreDegrees, AreNamesOf, AreSplits};
 
 use super::at::{RuleAt, first_break_at};
@@ -255,7 +255,7 @@ impl<'a> RuleAt<NodePart> for WholeRule<'a> {
 fn is_whole(parts: &NetParts, splits: &[bool], place: u32, node: &NodePart) -> bool
     requires splits { AreSplits parts.now splits.now }
     requires its { slice_get parts.now.nodes place ≡ Some node.now }
-    ensures { IsTrue result ↔ IsWhole parts.now node.now.name node.now.kind }
+    ensures { IsTrue result ↔ IsOneSection parts.now node.now.name node.now.kind }
 {
     match &node.kind {
         NodeKind::EndNode | NodeKind::Joint => true,

@@ -2,7 +2,7 @@
 
 ghost use Rattle.std.specs.Prelude.{◌≡◌, ◌↔◌, IsTrue, Contains, MatchOption};
 ghost use Rattle.vss_lists.specs.Breaks.{BreaksFirstAt, HoldsOfEach};
-ghost use Rattle.rail_net.specs.Borders.{IsKnown, IsKnownBorder};
+ghost use Rattle.rail_net.specs.Borders.{NamesKnown, IsKnownBorder};
 ghost use Rattle.rail_net.specs.Parts.{HasFewItems};
 ghost use Rattle.rail_net.specs.Rules.{AreKnown, KnowsNamed, KnowsPair, KnowsTracks, ListsTracks};
 ghost use Rattle.rail_net.specs.Tables.{AreNamesOf};

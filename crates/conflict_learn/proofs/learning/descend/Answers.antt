@@ -1,7 +1,8 @@
 -- Why `descend` does what its contract says.
 use Rattle.std.proofs.Common.{◌≡◌, ◌+◌, ◌-◌, ℕ, arith, sym, subst, ◌∙◌}
 use Rattle.conflict_learn.specs.Working.{IsWorking}
-use Rattle.conflict_learn.proofs.WorkLemmas.{is_place, work_pass_lit, work_end, place_assigned}
+use Rattle.conflict_learn.proofs.WorkLemmas.{work_end}
+use Rattle.conflict_learn.proofs.CallLemmas.{is_place, work_pass_lit, place_assigned}
 use Rattle.conflict_learn.proofs.LowerLemmas.{pending_some}
 use Rattle.conflict_learn.proofs.learning.descend.Goals as goal
 

@@ -1,6 +1,6 @@
 -- Why `keep` does what its contract says.
 use Rattle.std.proofs.Common.{ap, sym, ◌∙◌, ◌∷◌, ◌++◌, []}
-use Rattle.conflict_learn.proofs.WorkLemmas.{place_assigned, kept_present, kept_low}
+use Rattle.conflict_learn.proofs.CallLemmas.{place_assigned, kept_present, kept_low}
 use Rattle.conflict_learn.proofs.learning.keep.Goals as goal
 
 pub level-level-requires-clause-in_range : goal.level-level-requires-clause-in_range

@@ -1,7 +1,8 @@
 -- Why `resolve` does what its contract says.
 use Rattle.std.proofs.Common.{cond, ap, ◌∙◌, arith}
 use Rattle.std.specs.Prelude.{nat_eq}
-use Rattle.conflict_learn.proofs.WorkLemmas.{place_assigned, reason_assigned, reason_live, clause_over, clause_short, resolved_place, pending_short, bool_byte_is}
+use Rattle.conflict_learn.proofs.WorkLemmas.{bool_byte_is}
+use Rattle.conflict_learn.proofs.CallLemmas.{place_assigned, reason_assigned, reason_live, clause_over, clause_short, resolved_place, pending_short}
 use Rattle.conflict_learn.proofs.learning.resolve.Goals as goal
 
 pub unreachable-requires : goal.unreachable-requires

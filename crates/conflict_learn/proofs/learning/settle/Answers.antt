@@ -1,6 +1,6 @@
 -- Why `settle` does what its contract says.
 use Rattle.std.proofs.Common.{refl}
-use Rattle.conflict_learn.proofs.WorkLemmas.{place_assigned}
+use Rattle.conflict_learn.proofs.CallLemmas.{place_assigned}
 use Rattle.conflict_learn.proofs.learning.settle.Goals as goal
 
 pub resolving-requires : goal.resolving-requires

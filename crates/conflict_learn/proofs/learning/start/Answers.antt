@@ -1,6 +1,6 @@
 -- Why `start` does what its contract says.
 use Rattle.std.proofs.Common.{arith}
-use Rattle.conflict_learn.proofs.WorkLemmas.{conflict_assigned, clause_over, clause_short, start_state}
+use Rattle.conflict_learn.proofs.CallLemmas.{conflict_assigned, clause_over, clause_short, start_state}
 use Rattle.conflict_learn.proofs.learning.start.Goals as goal
 
 pub mark_all-unresolved-requires-clause-assigned : goal.mark_all-unresolved-requires-clause-assigned

@@ -1,6 +1,6 @@
 -- Why `adds_nothing` does what its contract says.
 use Rattle.std.proofs.Common.{[], length}
-use Rattle.conflict_learn.proofs.WorkLemmas.{clause_over}
+use Rattle.conflict_learn.proofs.CallLemmas.{clause_over}
 use Rattle.conflict_learn.proofs.lower.adds_nothing.Goals as goal
 
 pub are_marked-requires : goal.are_marked-requires

@@ -1,6 +1,6 @@
 -- Why `keep_low` does what its contract says.
 use Rattle.std.proofs.Common.{ap, ◌∙◌, ◌∷◌, ◌++◌, []}
-use Rattle.conflict_learn.proofs.WorkLemmas.{place_assigned}
+use Rattle.conflict_learn.proofs.CallLemmas.{place_assigned}
 use Rattle.conflict_learn.proofs.LowerLemmas.{kept_place}
 use Rattle.conflict_learn.proofs.lower.keep_low.Goals as goal
 

@@ -1,7 +1,7 @@
 -- Why `settle_at` does what its contract says.
 use Rattle.std.proofs.Common.{◌+◌, ◌∙◌, arith, sym}
 use Rattle.conflict_learn.proofs.LowerLemmas.{passes, unmarked_here}
-use Rattle.conflict_learn.proofs.WorkLemmas.{is_place, place_assigned}
+use Rattle.conflict_learn.proofs.CallLemmas.{is_place, place_assigned}
 use Rattle.conflict_learn.proofs.lower.settle_at.Goals as goal
 
 pub is_marked-requires : goal.is_marked-requires

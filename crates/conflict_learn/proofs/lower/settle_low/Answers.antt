@@ -2,7 +2,7 @@
 use Rattle.std.proofs.Common.{ℕ, sym, subst}
 use Rattle.std.specs.Prelude.{All}
 use Rattle.sat_core.specs.Clauses.{IsClause}
-use Rattle.conflict_learn.proofs.WorkLemmas.{place_assigned}
+use Rattle.conflict_learn.proofs.CallLemmas.{place_assigned}
 use Rattle.conflict_learn.proofs.lower.settle_low.Goals as goal
 
 pub implied-requires-clause-over : goal.implied-requires-clause-over

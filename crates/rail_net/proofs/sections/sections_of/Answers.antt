@@ -2,7 +2,7 @@
 use Rattle.std.proofs.Common.{◌≡◌, ◌<◌, ◌+◌, ◌∷◌, [], ◌++◌, inl, inr, ℕ, List, Option, None, length, get_or, slice_get, Some, subst, sym, ap, refl, ◌∙◌, arith}
 use Rattle.std.proofs.lemmas.Option.{slice_get-get_or, same_Some}
 use Rattle.std.proofs.lemmas.List.{length_push}
-use Rattle.rail_net.specs.Parts.{IsOfSection, Lists}
+use Rattle.rail_net.specs.Parts.{IsTrackOfSection, Lists}
 use Rattle.rail_net.specs.Entries.{AreValues, HasEntry}
 use Rattle.rail_net.specs.Refusals.{HasNewTracks}
 use Rattle.rail_net.specs.Rules.{IsListed}
@@ -25,7 +25,7 @@ unlisted p entries place t new numbers is none (section, lists) =
     none section (subst (λ k. HasEntry entries k section) same entry.2)
 
 -- a track of a section is listed
-listed : (p : NetParts) (section place : ℕ) (t : TrackPart) → slice_get p.tracks place ≡ Some t → IsOfSection p section place → IsListed p place t
+listed : (p : NetParts) (section place : ℕ) (t : TrackPart) → slice_get p.tracks place ≡ Some t → IsTrackOfSection p section place → IsListed p place t
 unfolding IsListed
 listed p section place t is of_section =
     let own : of_section.name ≡ t.name = same_Some of_section.name t.name (sym of_section.is_track ∙ map_at (λ (x : TrackPart). x.name) p.tracks place t is) in
@@ -43,11 +43,11 @@ option_none : (o : Option ℕ) → ((x : ℕ) → o ≡ Some x → ⊥) → o �
 option_none None other = refl
 option_none (Some x) other = absurd (other x refl)
 
-homes_more : (p : NetParts) (homes : List ℕ) (place section : ℕ) → length homes ≡ place → IsOfSection p section place
-    → ((track s : ℕ) → slice_get homes track ≡ Some s → IsOfSection p s track) → (track s : ℕ) → slice_get (homes ++ section ∷ []) track ≡ Some s → IsOfSection p s track
+homes_more : (p : NetParts) (homes : List ℕ) (place section : ℕ) → length homes ≡ place → IsTrackOfSection p section place
+    → ((track s : ℕ) → slice_get homes track ≡ Some s → IsTrackOfSection p s track) → (track s : ℕ) → slice_get (homes ++ section ∷ []) track ≡ Some s → IsTrackOfSection p s track
 homes_more p homes place section count own each track s at = elim (push_at homes section track s at) [
   | inl before ↦ each track s before
-  | inr here ↦ subst (IsOfSection p s) (sym (here.0 ∙ count)) (subst (λ x. IsOfSection p x place) here.1 own)
+  | inr here ↦ subst (IsTrackOfSection p s) (sym (here.0 ∙ count)) (subst (λ x. IsTrackOfSection p x place) here.1 own)
 ]
 
 pub returns-in_default-found-clause-unlisted : goal.returns-in_default-found-clause-unlisted
@@ -75,11 +75,11 @@ loop-place-preserved c =
     let section = c.in-Some.section in
     let low : place < length found = c.loop-place-test.true in
     let is : slice_get found place ≡ Some (Some section) = slice_get-get_or found place None low ∙ ap Some c.in-Some.is in
-    let home : IsOfSection p section place = of_entry p c.args.listings.now place section c.requires.listings (an_entry c.args.listings.now found place section c.requires.found is) in
+    let home : IsTrackOfSection p section place = of_entry p c.args.listings.now place section c.requires.listings (an_entry c.args.listings.now found place section c.requires.found is) in
     let grown : c.push.new.self.items ≡ homes ++ section ∷ [] = c.in-Ok-push.ensures.items in
     record {
       count = ap length grown ∙ (length_push homes section ∙ ap (λ n. n + 1) c.loop-place.invariant.count);
-      each = subst (λ hs. (track s : ℕ) → slice_get hs track ≡ Some s → IsOfSection p s track) (sym grown)
+      each = subst (λ hs. (track s : ℕ) → slice_get hs track ≡ Some s → IsTrackOfSection p s track) (sym grown)
           (homes_more p homes place section c.loop-place.invariant.count home c.loop-place.invariant.each);
       listed = holds_next (IsListed p) p.tracks place c.loop-place.invariant.listed (λ t there. listed p section place t there home);
     }

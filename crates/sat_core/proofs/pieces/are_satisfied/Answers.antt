@@ -2,8 +2,8 @@
 use Rattle.std.proofs.Common.{◌<◌, [], length, arith, subst, below_more, refl, sym}
 use Rattle.std.specs.Prelude.{slice_index_or}
 use Rattle.sat_core.specs.Clauses.{IsClause, Satisfies}
-use Rattle.sat_core.specs.Storage.{pieces}
-use Rattle.sat_core.proofs.StorageLemmas.{length-pieces}
+use Rattle.vss_rows.specs.Pieces.{pieces}
+use Rattle.vss_rows.proofs.PieceLaws.{length-pieces}
 use Rattle.sat_core.proofs.pieces.are_satisfied.Goals as goal
 
 pub is_satisfied-requires : goal.is_satisfied-requires

@@ -3,7 +3,7 @@ use Rattle.std.proofs.Common.{ℕ, ◌<◌}
 use Rattle.std.specs.Prelude.{List, slice_index_or}
 use Rattle.sat_core.specs.declared.literal.Lit.{Lit}
 use Rattle.sat_core.specs.Clauses.{Satisfies}
-use Rattle.sat_core.specs.Storage.{pieces}
+use Rattle.vss_rows.specs.Pieces.{pieces}
 use Rattle.sat_core.proofs.pieces.are_satisfied.Given as goal
 
 -- the clauses up to here are satisfied

@@ -1,7 +1,7 @@
 -- Why `Formula::clause` does what its contract says.
 use Rattle.std.proofs.Common.{◌≡◌, ◌-◌, ◌<◌, [], length, get_or, ap, arith, subst}
 use Rattle.sat_core.specs.Clauses.{IsClause}
-use Rattle.sat_core.specs.Storage.{pieces}
+use Rattle.vss_rows.specs.Pieces.{pieces}
 use Rattle.sat_core.proofs.formula.Formula.clause.Goals as goal
 
 pub returns-clause-clause : goal.returns-clause-clause

@@ -1,6 +1,6 @@
 -- Why `Formula::len` does what its contract says.
 use Rattle.std.proofs.Common.{length, ap, arith}
-use Rattle.sat_core.proofs.StorageLemmas.{length-pieces}
+use Rattle.vss_rows.proofs.PieceLaws.{length-pieces}
 use Rattle.sat_core.proofs.formula.Formula.len.Goals as goal
 
 pub returns : goal.returns

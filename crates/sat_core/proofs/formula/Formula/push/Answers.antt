@@ -1,7 +1,8 @@
 -- Why `Formula::push` does what its contract says.
 use Rattle.std.proofs.Common.{◌≡◌, ◌++◌, ◌∷◌, [], length, ap, arith, subst, sym, rules}
 use Rattle.sat_core.specs.Clauses.{IsClause}
-use Rattle.sat_core.proofs.StorageLemmas.{length-pieces, IsStored-push}
+use Rattle.vss_rows.proofs.PieceLaws.{length-pieces}
+use Rattle.sat_core.proofs.StorageLemmas.{IsStored-push}
 use Rattle.sat_core.proofs.formula.Formula.push.Goals as goal
 
 pub invariant_of-self-2 : goal.invariant_of-self-2

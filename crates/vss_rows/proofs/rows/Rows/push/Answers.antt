@@ -1,7 +1,7 @@
 -- Why `Rows::push` does what its contract says.
 use Rattle.std.proofs.Common.{◌≡◌, ◌++◌, ◌∷◌, ◌+◌, [], length, ◌∙◌, ap, refl, arith, length-append}
 use Rattle.std.specs.Prelude.{List, ℕ}
-use Rattle.vss_rows.proofs.PieceLemmas.{rises_more, pieces_more}
+use Rattle.vss_rows.proofs.PieceLaws.{rises_more, pieces_more}
 use Rattle.vss_rows.proofs.rows.Rows.push.Goals as goal
 
 -- where the items end, and the ends with it
