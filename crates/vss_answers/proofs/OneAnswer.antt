@@ -8,7 +8,7 @@ use Rattle.clause_encoder.specs.declared.task.EncodeRefusal.TheVariants.{Memory}
 use Rattle.derivation_log.specs.declared.step.Refutation.{Refutation}
 use Rattle.log_checker.specs.declared.verdict.LogVerdict.{LogVerdict}
 use Rattle.plan_checker.specs.Laws.{HasOneFirstBreach}
-use Rattle.plan_checker.specs.Verdicts.{IsVerdict}
+use Rattle.plan_checker.specs.Verdicts.{IsPlanVerdict}
 use Rattle.plan_checker.specs.declared.breach.Breach.{Breach}
 use Rattle.plan_checker.specs.declared.judging.Verdict.{Verdict}
 use Rattle.plan_checker.specs.declared.judging.Verdict.TheVariants as verdict
@@ -46,7 +46,7 @@ alike_of : (r s : Said) → r ≡ s → AreToldAlike r s
 alike_of r s same = subst (λ (x : Said). AreToldAlike r x) same (same_alike r)
 
 -- a plan has one verdict
-one_verdict : (p : InstanceParts) (borders : List CandidateId) (plan : Plan) → HasOneFirstBreach p borders plan → (v w : Verdict) → IsVerdict p borders plan v → IsVerdict p borders plan w → v ≡ w
+one_verdict : (p : InstanceParts) (borders : List CandidateId) (plan : Plan) → HasOneFirstBreach p borders plan → (v w : Verdict) → IsPlanVerdict p borders plan v → IsPlanVerdict p borders plan w → v ≡ w
 one_verdict p borders plan law verdict.Lawful verdict.Lawful one other = refl
 one_verdict p borders plan law verdict.Lawful (verdict.Breach b) one other = absurd (other.1 one)
 one_verdict p borders plan law (verdict.Breach b) verdict.Lawful one other = absurd (one.1 other)

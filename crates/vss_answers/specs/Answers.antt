@@ -8,7 +8,7 @@ use Rattle.clause_encoder.specs.declared.task.EncodeRefusal.{EncodeRefusal}
 use Rattle.derivation_log.specs.declared.step.Refutation.{Refutation}
 use Rattle.log_checker.specs.declared.verdict.LogVerdict.{LogVerdict}
 use Rattle.log_checker.specs.declared.verdict.LogVerdict.TheVariants as log_verdict
-use Rattle.plan_checker.specs.Verdicts.{IsVerdict}
+use Rattle.plan_checker.specs.Verdicts.{IsPlanVerdict}
 use Rattle.plan_checker.specs.declared.judging.Verdict.{Verdict}
 use Rattle.plan_checker.specs.declared.judging.Verdict.TheVariants as verdict
 use Rattle.task_driver.specs.Questions.{Question, of_kept, of_at_most, of_fewest}
@@ -62,7 +62,7 @@ tried_answer setting outcome = answer.Tried outcome setting.parts
 -- the judge's verdict on the plan, lawful or its first breach, is told
 pub record IsJudged (setting : Setting) (borders : List CandidateId) (plan : Plan) (end : Result Answer (Stop Refusal)) : Type 0 where
   pub verdict : Verdict
-  pub is : IsVerdict setting.parts borders plan verdict
+  pub is : IsPlanVerdict setting.parts borders plan verdict
   pub told : end ≡ Ok (judged_answer setting borders verdict)
 
 -- the texts are told

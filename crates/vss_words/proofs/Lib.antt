@@ -1,1 +1,4 @@
--- Laws of words.
+-- What the proofs of `vss_words` share.
+pub mod FormLemmas
+pub mod NumberLemmas
+pub mod RowLemmas

@@ -3,6 +3,10 @@
 
 mod command;
 mod fault;
+mod forms;
+mod numbers;
+mod parse;
+mod reading;
 mod task;
 mod words;
 

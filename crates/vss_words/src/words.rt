@@ -6,22 +6,27 @@ ghost use Rattle.vss_words.specs.Commands.{HasInRange, NamesTask};
 
 use crate::command::Command;
 use crate::fault::WordsFault;
+use crate::forms::form_of;
+use crate::parse::matches_in;
+use crate::reading::read_command;
 use crate::task::task_of;
 use std::alloc::Global;
 
 #[tactic(auto, unfolding(crate::specs::Commands::command))]
-/// DRAFT
+/// The command that the words ask for. The first one names the task, the others are read by `clap`, and each number has 1
+/// to 10 decimal digits and is in its range. `NotTaken` comes exactly where they ask for none, and `Memory`, for want of
+/// memory, only where the first word names a task. Linear in the words.
 pub fn command_of(alloc: Global, words: &[String]) -> Result<Command, WordsFault>
     ensures asked { ReadsAs (command (map string_bytes words.now)) (λ command. command) result }
     ensures range { IfOk result HasInRange }
     ensures memory { IsErrOf result WordsFault.Memory → NamesTask (map string_bytes words.now) }
 {
-    let _alloc = alloc;
     let Some((first, _)) = words.split_first() else {
         return Err(WordsFault::NotTaken);
     };
-    let Some(_) = task_of(first.as_str()) else {
+    let Some(task) = task_of(first.as_str()) else {
         return Err(WordsFault::NotTaken);
     };
-    Err(WordsFault::Memory)
+    let matches = matches_in(form_of(alloc, task)?, words)?;
+    read_command(alloc, task, &matches)
 }

@@ -1,0 +1,10 @@
+-- Each added argument is one more rule.
+use Rattle.std.proofs.Common.{◌∙◌, ap, ap₂}
+use Rattle.std.proofs.lemmas.Result.{IfOk-weaker}
+use Rattle.clap.specs.Words.{app_of, with_rule}
+use Rattle.vss_words.proofs.forms.add_documents.Goals as goal
+
+pub returns : goal.returns
+returns c =
+    let first = c.in_ok-arg.ensures.shape c.place_of.ensures.local ∙ ap (with_rule (app_of c.args.command)) c.place_of.ensures.rule in
+    IfOk-weaker c.arg-2.result _ _ (λ r added. added.shape c.place_of-2.ensures.local ∙ ap₂ with_rule first c.place_of-2.ensures.rule) c.arg-2.ensures
