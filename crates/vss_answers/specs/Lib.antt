@@ -7,5 +7,4 @@ pub mod RefusalTexts
 pub mod RefusalWords
 pub mod Statuses
 pub mod Texts
-pub mod TrialTexts
 pub mod Truth

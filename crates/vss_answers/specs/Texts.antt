@@ -6,7 +6,7 @@ use Rattle.vss_answers.specs.PrintedNames.{cell_name, place_name}
 use Rattle.vss_report.specs.Outcomes.{report_text}
 use Rattle.vss_answers.specs.CheckTexts.{step_fault_word, proved_text, not_proved_text}
 use Rattle.vss_answers.specs.RefusalTexts.{refusal_text}
-use Rattle.vss_answers.specs.TrialTexts.{summary_text}
+use Rattle.case_texts.specs.Summaries.{summary_text}
 use Rattle.vss_stages.specs.declared.input.Input.{Input}
 use Rattle.vss_stages.specs.declared.input.Input.TheVariants.{Network, Timetable, Report}
 use Rattle.vss_stages.specs.declared.stop.Stop.{Stop}

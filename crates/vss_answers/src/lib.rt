@@ -4,7 +4,6 @@
 mod answer;
 mod answering;
 mod breach;
-mod case_text;
 mod check_lines;
 mod checking;
 mod laws;
@@ -13,7 +12,6 @@ mod refusal_words;
 mod refusals;
 mod searching;
 mod status;
-mod trial;
 
 pub use answer::Answer;
 pub use answering::answer_to;

@@ -7,11 +7,10 @@ ghost use Rattle.vss_answers.specs.Texts.{input_word, answer_text, stop_text, sa
 
 use crate::answer::Answer;
 use crate::breach::print_breach;
-use crate::case_text::print_case;
 use crate::check_lines::{print_not_proved, print_proved, word_of_step_fault};
 use crate::refusals::print_refusal;
 use crate::status::Status;
-use crate::trial::print_summary;
+use case_texts::{print_case, print_summary};
 use itoa::Buffer;
 use vss_io::{Sink, SinkFault, print_line};
 use vss_jobs::Refusal;

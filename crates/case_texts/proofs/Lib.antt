@@ -1,0 +1,1 @@
+-- What the proofs of `case_texts` share: nothing so far.

@@ -1,0 +1,2 @@
+-- What the contracts of `case_texts` cite.
+pub mod Summaries
