@@ -17,10 +17,12 @@ pub fn outcomes_are_true()
 
 /// Of two searches for one answer both are refused alike for their size, or none is; but for want of memory.
 pub fn searches_end_alike()
+    requires { (p : InstanceParts) → SearchesEndAlike p }
     ensures { (p : InstanceParts) → SearchesEndAlike p }
 {}
 
 /// Two checks of one refutation end alike, but for want of memory.
 pub fn checks_are_one()
+    requires { (p : InstanceParts) → ChecksAreOne p }
     ensures { (p : InstanceParts) → ChecksAreOne p }
 {}
