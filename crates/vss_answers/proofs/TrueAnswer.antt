@@ -32,7 +32,7 @@ pub record TasksAreTrue : Type 0 where
   pub outcomes : (p : InstanceParts) → OutcomesAreTrue p
   pub refutations : (p : InstanceParts) → RefutationsAreTrue p
 
-true_judged : (setting : Setting) (borders : List CandidateId) (plan : Plan) (v : Verdict) → IsTrueAnswer (judging setting borders plan) (Ok (judged_answer setting borders v))
+true_judged : (setting : Setting) (borders : List CandidateId) (plan : Plan) (v : Verdict) → IsTrueAnswer (judging setting borders plan) (Ok (judged_answer setting.labels borders v))
 true_judged setting borders plan verdict.Lawful = tt
 true_judged setting borders plan (verdict.Breach b) = tt
 

@@ -2,6 +2,7 @@
 use Rattle.std.specs.Prelude.{◌≡◌, ◌+◌, ℕ, List, length, Some, None, Result, Ok, Err}
 use Rattle.cell_net.specs.Rules.{IsInstance}
 use Rattle.cell_net.specs.declared.ids.CandidateId.{CandidateId}
+use Rattle.cell_net.specs.declared.labels.Labels.{Labels}
 use Rattle.cell_net.specs.declared.parts.InstanceParts.{InstanceParts}
 use Rattle.cell_net.specs.declared.plans.Plan.{Plan}
 use Rattle.clause_encoder.specs.declared.task.EncodeRefusal.{EncodeRefusal}
@@ -42,9 +43,9 @@ pub record CheckEnds (setting : Setting) (refutation : Refutation) (end : Result
   pub ends_so : IsCheckEnd setting.parts refutation end
 
 -- the answer that tells a verdict on a plan
-abbrev pub judged_answer : Setting → List CandidateId → Verdict → Answer
-judged_answer setting borders verdict.Lawful = answer.Lawful (length borders)
-judged_answer setting borders (verdict.Breach breach) = answer.Breach breach setting.labels
+abbrev pub judged_answer : Labels → List CandidateId → Verdict → Answer
+judged_answer labels borders verdict.Lawful = answer.Lawful (length borders)
+judged_answer labels borders (verdict.Breach breach) = answer.Breach breach labels
 
 -- the answer that tells a verdict on a log, which begins behind that line of the report
 abbrev pub checked_answer : Refutation → ℕ → LogVerdict → Answer
@@ -63,7 +64,7 @@ tried_answer setting outcome = answer.Tried outcome setting.parts
 pub record IsJudged (setting : Setting) (borders : List CandidateId) (plan : Plan) (end : Result Answer (Stop Refusal)) : Type 0 where
   pub verdict : Verdict
   pub is : IsPlanVerdict setting.parts borders plan verdict
-  pub told : end ≡ Ok (judged_answer setting borders verdict)
+  pub told : end ≡ Ok (judged_answer setting.labels borders verdict)
 
 -- the texts are told
 abbrev pub IsMade : List ℕ → List ℕ → Result Answer (Stop Refusal) → Type 0

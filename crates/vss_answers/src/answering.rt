@@ -1,18 +1,18 @@
 //! The answer to a job.
 
-ghost use Rattle.std.specs.Prelude.{◌≤◌, ◌^◌};
+ghost use Rattle.std.specs.Prelude.{◌≡◌};
 ghost use Rattle.vss_stages.specs.Stages.{Ends};
 ghost use Rattle.vss_words.specs.Commands.{IsBudget};
 ghost use Rattle.vss_jobs.specs.Held.{job_in};
 ghost use Rattle.vss_jobs.specs.Jobs.{IsReadyJob};
 ghost use Rattle.vss_jobs.specs.Settings.{setting_of};
 ghost use Rattle.vss_jobs.specs.Readings.{judging, checking, searching, trying};
-ghost use Rattle.vss_answers.specs.Answers.{IsRightAnswer};
+ghost use Rattle.vss_answers.specs.Answers.{IsRightAnswer, judged_answer};
 
 use crate::answer::Answer;
 use crate::checking::checked;
 use crate::searching::{found, tried};
-use cell_net::{Layout, Plan, Scene};
+use cell_net::{Labels, Layout, Plan, Scene};
 use plan_checker::{Verdict, judge};
 use solver_face::Solver;
 use std::alloc::Global;
@@ -56,10 +56,19 @@ fn judged(
     ensures { Ends (IsRightAnswer (judging (setting_of scene) layout.now plan.now)) (λ answer. answer) result }
 {
     let Scene { inst, labels } = scene;
-    let borders = layout.borders().len();
     match judge(alloc, &inst, layout, plan) {
-        Ok(Verdict::Lawful) => Ok(Answer::Lawful { borders }),
-        Ok(Verdict::Breach(breach)) => Ok(Answer::Breach { breach, labels }),
+        Ok(verdict) => Ok(answer_of(verdict, layout, labels)),
         Err(_) => Err(Stop::Memory),
+    }
+}
+
+/// The answer that tells the verdict.
+fn answer_of(verdict: Verdict, layout: &Layout, labels: Labels) -> Answer
+    ensures { result ≡ judged_answer labels layout.now verdict }
+{
+    let borders = layout.borders().len();
+    match verdict {
+        Verdict::Lawful => Answer::Lawful { borders },
+        Verdict::Breach(breach) => Answer::Breach { breach, labels },
     }
 }

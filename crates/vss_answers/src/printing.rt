@@ -105,7 +105,9 @@ fn print_answer<K: Sink>(answer: &Answer, out: &mut K) -> Result<(), SinkFault>
         Answer::NoEmptyClause { line } => print_not_proved(*line, b"NoEmptyClause", out),
         Answer::Found { outcome, labels } => write_outcome(labels, outcome, out),
         Answer::Made { network, timetable } => {
-            print_case(network.as_slice(), timetable.as_slice(), out)
+            let network = network.as_slice();
+            let timetable = timetable.as_slice();
+            print_case(network, timetable, out)
         }
         Answer::Tried { outcome, inst } => print_summary(inst, outcome, out),
     }

@@ -30,11 +30,13 @@ pub fn read_documents<H: Shelf>(
     ensures kept { Keeps (H.shown shelf.old) (H.shown shelf.new) (names_of_documents names.now) }
     ensures scene { Ends (IsSettingOf (H.shown shelf.old) (H.shown shelf.new) names.now) setting_of result }
 {
-    let net = match read_network(alloc, names.network.as_str(), shelf) {
+    let network = names.network.as_str();
+    let timetable = names.timetable.as_str();
+    let net = match read_network(alloc, network, shelf) {
         Ok(net) => net,
         Err(stop) => return Err(stop),
     };
-    match read_input(shelf, Input::Timetable, names.timetable.as_str()) {
+    match read_input(shelf, Input::Timetable, timetable) {
         Ok(bytes) => scene_with(alloc, &net, bytes.as_slice()),
         Err(stop) => Err(stop),
     }

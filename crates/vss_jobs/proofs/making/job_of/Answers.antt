@@ -15,5 +15,5 @@ returns-in-Ok-clause-job g c = then_ends _ _ _ c.in-Ok.asked _ c.in-Ok.ensures.a
 pub returns-in-Ok-clause-memory : goal.returns-in-Ok-clause-memory
 returns-in-Ok-clause-memory g c = λ lacks. names_task _ c.in-Ok.asked c.in-Ok.ensures.asked
 
-pub returns-in-Err-clause-job : goal.returns-in-Err-clause-job
-returns-in-Err-clause-job g c = stops Usage c.in-Err.ensures.asked refl
+pub returns-in-Err-NotTaken-clause-job : goal.returns-in-Err-NotTaken-clause-job
+returns-in-Err-NotTaken-clause-job g c = stops Usage c.in-Err-NotTaken.ensures.asked refl
