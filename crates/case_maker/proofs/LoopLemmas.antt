@@ -3,7 +3,7 @@ use Rattle.std.proofs.Common.{◌≡◌, ℕ, ◌+◌, ◌-◌, ◌≤◌, ◌%�
 use Rattle.std.specs.List.{flat_map, range_with_len}
 use Rattle.std.proofs.lemmas.List.{append-nil, map-id, flat_map_more}
 use Rattle.std.proofs.lemmas.List.FromFn.{map-range_with_len_more}
-use Rattle.case_maker.specs.Draws.{after, state}
+use Rattle.case_maker.specs.Draws.{next_state, state}
 use Rattle.case_maker.specs.Texts.{filled}
 
 range_more : (a n : ℕ) → range_with_len a (n + 1) ≡ range_with_len a n ++ (a + n) ∷ []
@@ -21,9 +21,9 @@ one_more text a i base old new h before grown =
     grown ∙ (ap (λ xs. xs ++ text i) before ∙ (flat_map_more text base (range_with_len a (i - a)) i ∙ sym (ap (λ xs. base ++ flat_map text xs) (ap (range_with_len a) count ∙ (range_more a (i - a) ∙ ap (λ n. range_with_len a (i - a) ++ n ∷ []) place)))))
 
 -- one draw more
-pub state_more : (seed n x y : ℕ) → x ≡ state seed n → y ≡ after x → y ≡ state seed (n + 1)
+pub state_more : (seed n x y : ℕ) → x ≡ state seed n → y ≡ next_state x → y ≡ state seed (n + 1)
 unfolding state
-state_more seed n x y before is = rw add-one (is ∙ ap after before)
+state_more seed n x y before is = rw add-one (is ∙ ap next_state before)
 
 pub state_none : (seed : ℕ) → seed % 65537 ≡ state seed 0
 unfolding state

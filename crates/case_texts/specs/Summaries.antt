@@ -6,16 +6,16 @@ use Rattle.vss_report.specs.declared.outcome.Outcome.{Outcome}
 use Rattle.vss_report.specs.declared.outcome.Outcome.TheVariants.{Done, Impossible, Spent}
 
 -- a line of a word, which ends with a space, and a number
-abbrev pub counted : List ℕ → ℕ → List ℕ
-counted word number = line (flat (word ∷ decimal number ∷ []))
+abbrev pub counted_line : List ℕ → ℕ → List ℕ
+counted_line word number = line (flat (word ∷ decimal number ∷ []))
 
 -- how large the network is
 unfoldable pub space_text : InstanceParts → List ℕ
-space_text parts = counted (codes "cells ") (length parts.cells) ++ counted (codes "candidates ") (length parts.candidates)
+space_text parts = counted_line (codes "cells ") (length parts.cells) ++ counted_line (codes "candidates ") (length parts.candidates)
 
 -- how large the timetable is
 unfoldable pub time_text : InstanceParts → List ℕ
-time_text parts = counted (codes "trains ") (length parts.trains) ++ counted (codes "steps ") parts.steps
+time_text parts = counted_line (codes "trains ") (length parts.trains) ++ counted_line (codes "steps ") parts.steps
 
 abbrev pub verdict_of : Outcome → List ℕ
 verdict_of (Done design) = codes "done"
@@ -24,9 +24,9 @@ verdict_of (Spent conflicts best) = codes "spent"
 
 -- how many borders the design has that was found; nothing where none was
 abbrev pub borders_text : Outcome → List ℕ
-borders_text (Done design) = counted (codes "borders ") (length design.layout)
+borders_text (Done design) = counted_line (codes "borders ") (length design.layout)
 borders_text (Impossible refutation) = []
-borders_text (Spent conflicts (Some design)) = counted (codes "borders ") (length design.0)
+borders_text (Spent conflicts (Some design)) = counted_line (codes "borders ") (length design.0)
 borders_text (Spent conflicts None) = []
 
 -- how the search ended

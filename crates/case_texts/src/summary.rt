@@ -2,7 +2,7 @@
 
 ghost use Rattle.std.specs.Prelude.{◌≡◌};
 ghost use Rattle.vss_io.specs.Written.{Prints};
-ghost use Rattle.case_texts.specs.Summaries.{borders_text, counted, ending_text, space_text, summary_text, time_text, verdict_of};
+ghost use Rattle.case_texts.specs.Summaries.{borders_text, counted_line, ending_text, space_text, summary_text, time_text, verdict_of};
 
 use cell_net::Instance;
 use itoa::Buffer;
@@ -75,7 +75,7 @@ fn print_borders<K: Sink>(outcome: &Outcome, out: &mut K) -> Result<(), SinkFaul
 
 /// Prints the line of the word and the number.
 fn print_counted<K: Sink>(word: &[u8], number: usize, out: &mut K) -> Result<(), SinkFault>
-    ensures { Prints (K.shown out.old) (K.shown out.new) (counted word.now number) result }
+    ensures { Prints (K.shown out.old) (K.shown out.new) (counted_line word.now number) result }
 {
     print_line(&[word, Buffer::new().format(number).as_bytes()], out)
 }

@@ -9,7 +9,7 @@ use Rattle.rail_net.specs.declared.refusal.ListKind.{ListKind}
 use Rattle.rail_net.specs.declared.refusal.ListKind.TheVariants.{Nodes, Tracks, Sections, Stations}
 use Rattle.rail_net.specs.declared.refusal.NetRefusal.TheVariants.{Named}
 use Rattle.rail_net.specs.declared.refusal.Spot.{Spot}
-use Rattle.net_reader.specs.Document.{at, document}
+use Rattle.net_reader.specs.Document.{at_item, document}
 use Rattle.net_reader.specs.declared.refusal.ReadRefusal.{ReadRefusal}
 use Rattle.net_reader.specs.declared.refusal.ReadRefusal.TheVariants.{NotJson, Shape, BadName, Net, Memory}
 
@@ -31,7 +31,7 @@ naming_rules p =
 abbrev pub IsReading : List ℕ → Result NetParts ReadRefusal → Type 0
 IsReading bytes (Ok parts) = States document bytes parts × IsNet parts
 IsReading bytes (Err NotJson) = IsNoJson bytes
-IsReading bytes (Err (Shape member item)) = MissesShape document bytes (at member item)
+IsReading bytes (Err (Shape member item)) = MissesShape document bytes (at_item member item)
 IsReading bytes (Err (BadName spot)) =
     (parts : NetParts) × States document bytes parts × IsFirstBroken (naming_rules parts) spot
 IsReading bytes (Err (Net kind spot)) =

@@ -3,7 +3,7 @@
 ghost use Rattle.std.specs.Prelude.{◌≡◌, ⊤, IfOk};
 ghost use Rattle.vss_json.specs.Values.{json_of};
 ghost use Rattle.vss_json.specs.Readings.{Gives};
-ghost use Rattle.net_reader.specs.Document.{ListsSome, at as fault_at, border_at, group_at, kind_of as kind_reading, node_at, section_at, station_at, track_at};
+ghost use Rattle.net_reader.specs.Document.{ListsSome, at_item as fault_at, border_at, group_at, kind_of as kind_reading, node_at, section_at, station_at, track_at};
 
 use crate::member::Member;
 use rail_net::{BorderPart, GroupPart, NodeKind, NodePart, TrackPart};

@@ -6,13 +6,13 @@ use Rattle.rail_net.specs.Breaks.{IsBreak}
 use Rattle.rail_net.specs.declared.names.Break.{Break}
 use Rattle.rail_net.specs.declared.names.Break.TheVariants.{At}
 use Rattle.rail_net.specs.declared.refusal.ListKind.{ListKind}
-use Rattle.timetable.specs.Rules.{Tells, TimeRules, in_list}
+use Rattle.timetable.specs.Rules.{Tells, TimeRules, told_in}
 use Rattle.timetable.specs.declared.refusal.TimeFault.{TimeFault}
 use Rattle.timetable.specs.declared.rules.RuleRefusal.{RuleRefusal}
 
 -- the rule of that number is the first that is broken
 pub told_place : (rules : TimeRules) (n : ℕ) (kind : TimeFault) (list : ListKind) (place : ℕ) (answer : RuleRefusal)
-    → answer ≡ in_list kind list place → BreaksFirst rules n (in_list kind list place) → Tells rules answer
+    → answer ≡ told_in kind list place → BreaksFirst rules n (told_in kind list place) → Tells rules answer
 unfolding IsFirstBroken
 told_place rules n kind list place answer is first = λ told. (n, subst (BreaksFirst rules n) (sym is) first)
 

@@ -32,12 +32,12 @@ pub record HasGoodNumbers (t : TrainEntry) : Type 0 where
   pub stops : All HasGoodTimes t.stops
 
 -- the rule is broken by that item of the list
-abbrev pub in_list : TimeFault → ListKind → ℕ → RuleRefusal
-in_list kind list item = Named kind (record { list = list; item = item })
+abbrev pub told_in : TimeFault → ListKind → ℕ → RuleRefusal
+told_in kind list item = Named kind (record { list = list; item = item })
 
 -- the rule is broken by that train
 abbrev pub in_train : TimeFault → ℕ → RuleRefusal
-in_train kind train = in_list kind list.Trains train
+in_train kind train = told_in kind list.Trains train
 
 abbrev pub TimeRules : Type 1
 TimeRules = List (OrderRule RuleRefusal)
@@ -54,7 +54,7 @@ time_rules p e =
     rule_of_each (in_train DuplicateName) (HasNewName (λ t. t.name) e.trains) e.trains ∷
     rule_of_each (in_train UnknownName) (λ train t. KnowsPlaces p t) e.trains ∷
     rule_of_each (in_train EndWanted) (λ train t. IsBetweenEnds p t) e.trains ∷
-    rule (in_list StepRange list.Document 0) (HasGoodStepEntries e) ∷
+    rule (told_in StepRange list.Document 0) (HasGoodStepEntries e) ∷
     rule_of_each (in_train TrainRange) (λ train t. HasGoodNumbers t) e.trains ∷ []
 
 -- the refusal tells the first of the rules that is broken; want of memory says nothing of them

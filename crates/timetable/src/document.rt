@@ -3,7 +3,7 @@
 ghost use Rattle.std.specs.Prelude.{◌≡◌, IfOk};
 ghost use Rattle.vss_json.specs.Values.{json_of};
 ghost use Rattle.vss_json.specs.Readings.{Gives};
-ghost use Rattle.timetable.specs.Document.{HasFewEntries, HasFewStopEntries, at as fault_at, document, stop_at, train_at};
+ghost use Rattle.timetable.specs.Document.{HasFewEntries, HasFewStopEntries, at_train as fault_at, document, stop_at, train_at};
 
 use crate::entries::{Entries, StopEntry, TrainEntry};
 use crate::refusal::TimeMember;

@@ -1,5 +1,5 @@
 -- A text in the form of numbers is parsed as the number that its digits write.
-use Rattle.std.proofs.Common.{rules, ◌≡◌, ◌&&◌, ℕ, Bool, true, false, List, Result, Ok, ◌<◌, ◌≤◌, ◌^◌, length, arith, refl, inl, inr}
+use Rattle.std.proofs.Common.{rules, ◌≡◌, ◌&&◌, ℕ, Bool, true, false, List, Result, Ok, ◌≤◌, length, arith, refl}
 use Rattle.std.specs.Prelude.{nat_le}
 use Rattle.std.specs.Char.{is_ascii_digit}
 use Rattle.std.specs.List.{list_all}

@@ -28,8 +28,8 @@ documents_in rows = option_and_then (λ network.
     (first_of (codes "net") rows)
 
 -- a number that has to be given
-abbrev pub number_at : ℕ → ℕ → List ℕ → List Row → Option ℕ
-number_at low high id rows = option_and_then (number_from low high) (first_of id rows)
+abbrev pub number_given : ℕ → ℕ → List ℕ → List Row → Option ℕ
+number_given low high id rows = option_and_then (number_from low high) (first_of id rows)
 
 -- a number that may be given: it is the default where it isn't
 abbrev pub number_or : ℕ → ℕ → ℕ → Option (List ℕ) → Option ℕ
@@ -49,27 +49,27 @@ abbrev pub most_in : List Row → Option (Option ℕ)
 most_in rows = number_if_given 0 4294967295 (first_of (codes "borders") rows)
 
 abbrev pub seed_in : List Row → Option ℕ
-seed_in rows = number_at 0 4294967295 (codes "seed") rows
+seed_in rows = number_given 0 4294967295 (codes "seed") rows
 
 abbrev pub size_in : List Row → Option ℕ
-size_in rows = number_at 1 8 (codes "size") rows
+size_in rows = number_given 1 8 (codes "size") rows
 
 -- the command of a task with these arguments
-abbrev pub command_in : Task → List Row → Option Command
-command_in task.Verify rows = option_and_then (λ documents. option_map (Verify documents) (budget_in rows)) (documents_in rows)
-command_in task.Generate rows = option_and_then (λ documents.
+abbrev pub command_from : Task → List Row → Option Command
+command_from task.Verify rows = option_and_then (λ documents. option_map (Verify documents) (budget_in rows)) (documents_in rows)
+command_from task.Generate rows = option_and_then (λ documents.
     option_and_then (λ most. option_map (Generate documents most) (budget_in rows)) (most_in rows)) (documents_in rows)
-command_in task.Optimise rows = option_and_then (λ documents. option_map (Optimise documents) (budget_in rows)) (documents_in rows)
-command_in task.Judge rows = option_and_then (λ documents. option_map (Judge documents) (first_of (codes "report") rows)) (documents_in rows)
-command_in task.Check rows = option_and_then (λ documents. option_map (Check documents) (first_of (codes "report") rows)) (documents_in rows)
-command_in task.Make rows = option_and_then (λ seed. option_map (Make seed) (size_in rows)) (seed_in rows)
-command_in task.Trial rows = option_and_then (λ seed.
+command_from task.Optimise rows = option_and_then (λ documents. option_map (Optimise documents) (budget_in rows)) (documents_in rows)
+command_from task.Judge rows = option_and_then (λ documents. option_map (Judge documents) (first_of (codes "report") rows)) (documents_in rows)
+command_from task.Check rows = option_and_then (λ documents. option_map (Check documents) (first_of (codes "report") rows)) (documents_in rows)
+command_from task.Make rows = option_and_then (λ seed. option_map (Make seed) (size_in rows)) (seed_in rows)
+command_from task.Trial rows = option_and_then (λ seed.
     option_and_then (λ size. option_map (Trial seed size) (budget_in rows)) (size_in rows)) (seed_in rows)
 
 -- the command that words ask for, whose first one is its task
 abbrev pub command_named : Option Task → List (List ℕ) → Option Command
 command_named None words = None
-command_named (Some task) words = option_and_then (command_in task) (rows_given (form task) words)
+command_named (Some task) words = option_and_then (command_from task) (rows_given (form task) words)
 
 unfoldable pub command : List (List ℕ) → Option Command
 command [] = None

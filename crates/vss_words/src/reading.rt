@@ -2,7 +2,7 @@
 
 ghost use Rattle.std.specs.Prelude.{◌≤◌, IfOk};
 ghost use Rattle.clap.specs.Words.{found_of, first_of, rows_of};
-ghost use Rattle.vss_words.specs.Commands.{ReadsAs, HasInRange, IsBudget, budget_in, command_in, documents_in, most_in, number_at};
+ghost use Rattle.vss_words.specs.Commands.{ReadsAs, HasInRange, IsBudget, budget_in, command_from, documents_in, most_in, number_given};
 
 use crate::command::{Command, DocumentNames};
 use crate::fault::WordsFault;
@@ -43,7 +43,7 @@ fn documents(alloc: Global, matches: &ArgMatches<'_>) -> Result<DocumentNames, W
 
 /// The number that was given to the argument.
 fn number(low: u32, high: u32, matches: &ArgMatches<'_>, id: &str) -> Result<u32, WordsFault>
-    ensures value { ReadsAs (number_at low high id.now (rows_of (found_of matches.now))) (λ n. n) result }
+    ensures value { ReadsAs (number_given low high id.now (rows_of (found_of matches.now))) (λ n. n) result }
     ensures within { IfOk result (λ n. (low ≤ n) × (n ≤ high)) }
 {
     let Some(text) = text_at(matches, id) else {
@@ -82,7 +82,7 @@ pub fn read_command(
     task: Task,
     matches: &ArgMatches<'_>,
 ) -> Result<Command, WordsFault>
-    ensures value { ReadsAs (command_in task (rows_of (found_of matches.now))) (λ command. command) result }
+    ensures value { ReadsAs (command_from task (rows_of (found_of matches.now))) (λ command. command) result }
     ensures range { IfOk result HasInRange }
 {
     match task {

@@ -1,5 +1,5 @@
 -- Ten digits at most always fit 64 bits.
-use Rattle.std.proofs.Common.{rules, ◌≡◌, true, arith}
+use Rattle.std.proofs.Common.{rules, ◌≡◌, true}
 use Rattle.vss_words.proofs.NumberLemmas.{parses}
 use Rattle.vss_words.specs.Numbers.{is_number}
 use Rattle.vss_words.proofs.numbers.number_in.Goals as goal
