@@ -17,6 +17,7 @@ pub struct ListText<'a> {
 }
 
 /// The list at the front of the text, and what follows the 0 behind its words. One pass.
+#[inline(always)]
 pub(crate) fn test_list<W: Word>(text: &[u8]) -> Result<(ListText<'_>, &[u8]), Miss>
     ensures list { IfOk result (λ found. IsList W.spelled W.in_range found.0) }
     ensures found { IfOk result (λ found. text.now ≡ found.0.text.now ++ found.1.now) }

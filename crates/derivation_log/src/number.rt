@@ -10,6 +10,7 @@ use vss_io::{LineBuf, Sink, SinkFault};
 use vss_text::{Miss, begins_with};
 
 /// The number at the front of the text, and what follows the blank behind it.
+#[inline(always)]
 pub(crate) fn number(text: &[u8]) -> Result<(u32, &[u8]), Miss>
     ensures in_range { IfOk result (λ found. IsLogNumber found.0) }
     ensures found { IfOk result (λ found. text.now ≡ decimal found.0 ++ 32 ∷ found.1.now) }

@@ -41,6 +41,7 @@ impl Word for ClauseId {
 
     ghost in_range = { λ id. IsLogNumber id.0 };
 
+    #[inline(always)]
     fn read(text: &[u8]) -> Result<(ClauseId, &[u8]), Miss> {
         match number(text) {
             Ok((value, rest)) => Ok((ClauseId(value), rest)),
@@ -65,6 +66,7 @@ impl Word for Lit {
 
     ghost in_range = { λ lit. IsLogNumber lit.var.0 };
 
+    #[inline(always)]
     fn read(text: &[u8]) -> Result<(Lit, &[u8]), Miss> {
         if begins_with(text, b'-') {
             return match number(&text[1..]) {

@@ -1,7 +1,9 @@
 //! Tests of the reader of networks: shapes, rules, names, and hostile texts.
 
 mod hostile;
+mod names;
 mod nets;
-mod rows;
+mod orders;
+mod rules;
 mod shapes;
 mod texts;

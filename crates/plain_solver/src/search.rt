@@ -9,11 +9,12 @@ ghost use Rattle.plain_solver.specs.States.{IsState, solving_of, AreSame, GoesOn
 
 use crate::conflict::conflict;
 use crate::passes::propagate;
-use crate::pick::{open_literal, show};
+use crate::pick::open_literal;
 use crate::state::State;
 use sat_core::ClauseId;
 use solver_face::{Answer, Budget};
 use std::alloc::AllocError;
+use trail_values::show;
 
 /// Searches until there is an answer. Each round takes one of the budget or makes an open variable true or false.
 pub(crate) fn search(state: &mut State, budget: &mut Budget) -> Result<Answer, AllocError>

@@ -2,4 +2,5 @@
 pub mod ReadingLaws
 pub mod NumberLaws
 pub mod NumberLemmas
+pub mod HeadLemmas
 pub mod LineLaws

@@ -1,7 +1,7 @@
 -- Laws of what stands at the front of a text.
-use Rattle.std.proofs.Common.{◌≡◌, ◌≢◌, ◌<◌, ℕ, List, [], ◌∷◌, ◌++◌, ◌⊎◌, inl, inr, length, refl, sym, ap, ◌∙◌, append_assoc, append-nil, length-append, arith}
+use Rattle.std.proofs.Common.{◌≡◌, ◌≢◌, ℕ, List, [], ◌∷◌, ◌++◌, ◌⊎◌, inl, inr, refl, sym, ap, ◌∙◌, append_assoc, append-nil, length-append, arith}
 use Rattle.std.proofs.lemmas.List.{append_cancel_left}
-use Rattle.vss_text.specs.Reading.{EndsWithin, NeverBegins, Misses, MissesText, IsReadOnce, Both, both_spelled}
+use Rattle.vss_text.specs.Reading.{NeverBegins, Misses, MissesText, IsReadOnce, Both, both_spelled}
 use Rattle.vss_text.specs.declared.miss.Miss.{Miss}
 use Rattle.vss_text.specs.declared.miss.Miss.TheVariants.{Short, Wrong}
 

@@ -5,6 +5,7 @@ ghost use Rattle.vss_text.specs.Reading.{MissesText};
 use crate::miss::Miss;
 
 /// What follows the word at the front of the text. Linear in the word.
+#[inline(always)]
 pub fn after<'a>(text: &'a [u8], word: &[u8]) -> Result<&'a [u8], Miss>
     ensures found { IfOk result (λ rest. text.now ≡ word.now ++ rest.now) }
     ensures missed { IfErr result (MissesText word.now text.now) }
@@ -16,6 +17,7 @@ pub fn after<'a>(text: &'a [u8], word: &[u8]) -> Result<&'a [u8], Miss>
 }
 
 /// Whether the byte, which isn't 0, is the first of the text.
+#[inline(always)]
 pub fn begins_with(text: &[u8], byte: u8) -> bool
     requires { 0 < byte }
     ensures { IsTrue result ↔ (slice_index text.now 0 ≡ byte) }
@@ -27,6 +29,8 @@ pub fn begins_with(text: &[u8], byte: u8) -> bool
 }
 
 /// Why the text, which doesn't begin with the word, doesn't.
+#[cold]
+#[inline(never)]
 fn miss_of(text: &[u8], word: &[u8]) -> Miss
     requires { (rest : List ℕ) → text.now ≢ word.now ++ rest }
     ensures { MissesText word.now text.now result }

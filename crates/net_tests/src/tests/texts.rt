@@ -1,6 +1,7 @@
 //! Documents that tests begin with, and changes of them.
 
 use net_reader::{ReadRefusal, read_net};
+use rail_net::{ListKind, NetFault, Spot};
 use std::alloc::Global;
 use std::test::Fail;
 
@@ -24,4 +25,12 @@ pub fn answer(alloc: Global, bytes: &[u8]) -> Result<(), ReadRefusal> {
         Ok(_net) => Ok(()),
         Err(refusal) => Err(refusal),
     }
+}
+
+/// The answer that tells this broken rule, and the item of the list that breaks it.
+pub fn refused(kind: NetFault, list: ListKind, item: u32) -> Result<(), ReadRefusal> {
+    Err(ReadRefusal::Net {
+        kind,
+        spot: Spot { list, item },
+    })
 }

@@ -1,7 +1,7 @@
 -- Why `open_literal` does what its contract says.
 use Rattle.std.proofs.Common.{inl, inr}
 use Rattle.search_trail.specs.Trails.{known_of}
-use Rattle.plain_solver.proofs.FullLemmas.{told_more}
+use Rattle.trail_values.proofs.FullLaws.{told_more}
 use Rattle.plain_solver.proofs.pick.open_literal.Goals.{in-Yes, in-No}
 use Rattle.plain_solver.proofs.pick.open_literal.Goals as goal
 

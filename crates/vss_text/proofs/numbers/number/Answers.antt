@@ -1,40 +1,14 @@
 -- Why `number` does what its contract says.
-use Rattle.std.proofs.Common.{◌≡◌, ◌+◌, ◌∷◌, ◌++◌, true, false, arith, ap, sym, ◌∙◌, refl}
+use Rattle.std.proofs.Common.{◌+◌, ◌∷◌, ◌++◌, ap, sym, ◌∙◌, arith}
 use Rattle.std.specs.Prelude.{decimal}
 use Rattle.std.proofs.lemmas.List.{take_rest}
-use Rattle.vss_text.proofs.NumberLemmas.{AreRead-more, AreRead-number, AreRead-short, AreRead-no_digit, AreRead-ends, AreRead-stops, AreRead-room}
+use Rattle.vss_text.proofs.HeadLemmas.{number_of_head, head_misses}
 use Rattle.vss_text.proofs.numbers.number.Goals as goal
 
-pub returns-then-count-eq0-clause-missed : goal.returns-then-count-eq0-clause-missed
-returns-then-count-eq0-clause-missed c = AreRead-no_digit c.args.text.now c.args.end c.loop-count.count c.loop-count.value c.requires c.if-count-eq0.true (omega arith) c.if-byte-end.true
+pub returns-in-Ok-clause-found : goal.returns-in-Ok-clause-found
+returns-in-Ok-clause-found c =
+    number_of_head c.args.text.now c.in-Some.head.now c.args.end c.in-Ok.value c.in-Ok.digits c.in-Some.ensures.cases.0 c.in-Ok.ensures.within c.in-Ok.ensures.found
+    ∙ ap (λ rest. decimal c.in-Ok.value ++ c.args.end ∷ rest) (sym (take_rest c.args.text.now (c.in-Ok.digits + 1)))
 
-pub returns-else-count-eq0-clause-short : goal.returns-else-count-eq0-clause-short
-returns-else-count-eq0-clause-short c = AreRead-short c.args.text.now c.loop-count.count c.loop-count.value c.loop-count.invariant (omega arith)
-
-pub returns-else-count-eq0-clause-found : goal.returns-else-count-eq0-clause-found
-returns-else-count-eq0-clause-found c =
-    AreRead-number c.args.text.now c.args.end c.loop-count.count c.loop-count.value c.loop-count.invariant (omega arith) (omega arith) c.if-byte-end.true
-    ∙ ap (λ rest. decimal c.loop-count.value ++ c.args.end ∷ rest) (sym (take_rest c.args.text.now (c.loop-count.count + 1)))
-
-pub returns-then-not-goes_on-clause-missed : goal.returns-then-not-goes_on-clause-missed
-returns-then-not-goes_on-clause-missed c =
-    AreRead-stops c.args.text.now c.args.end c.loop-count.count c.loop-count.value c.requires c.loop-count.invariant (omega arith) c.if-byte-end.false
-    (λ fine. let never : false ≡ true = c.if-not-goes_on.ensures.1 fine in cc)
-
-pub overflow_mul-value : goal.overflow_mul-value
-overflow_mul-value c =
-    let fine = c.if-not-goes_on.ensures.0 refl in
-    omega (arith, AreRead-room c.args.text.now c.loop-count.count c.loop-count.value c.loop-count.invariant (omega arith) fine.2)
-
-pub overflow_add-value : goal.overflow_add-value
-overflow_add-value c =
-    let fine = c.if-not-goes_on.ensures.0 refl in
-    omega (arith, c.from.ensures, fine.1, AreRead-room c.args.text.now c.loop-count.count c.loop-count.value c.loop-count.invariant (omega arith) fine.2)
-
-pub loop-count-preserved : goal.loop-count-preserved
-loop-count-preserved c =
-    let fine = c.if-not-goes_on.ensures.0 refl in
-    rw c.from.ensures (AreRead-more c.args.text.now c.loop-count.count c.loop-count.value c.loop-count.invariant c.loop-count-test.true fine)
-
-pub returns-clause-missed : goal.returns-clause-missed
-returns-clause-missed c = AreRead-ends c.args.text.now c.args.end c.loop-count.count c.loop-count.value c.loop-count.invariant (omega arith)
+pub returns-in-Err-clause-missed : goal.returns-in-Err-clause-missed
+returns-in-Err-clause-missed c = head_misses c.args.text.now c.in-Some.head.now c.args.end c.in-Err.miss c.in-Some.ensures.cases.0 (omega (arith, c.in-Some.ensures.cases.2)) c.in-Err.ensures.missed

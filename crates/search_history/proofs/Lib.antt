@@ -1,0 +1,2 @@
+-- The lemmas of `search_history`.
+pub mod HistoryLemmas

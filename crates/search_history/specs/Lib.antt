@@ -1,0 +1,2 @@
+-- What the contracts of `search_history` cite.
+pub mod Histories

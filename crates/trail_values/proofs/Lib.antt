@@ -1,0 +1,2 @@
+-- The laws of `trail_values`.
+pub mod FullLaws

@@ -1,0 +1,2 @@
+-- What the contracts of `trail_values` cite.
+pub mod Full
