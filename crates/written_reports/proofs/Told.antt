@@ -134,9 +134,11 @@ stands : (files after : Files) (documents : DocumentNames) (report : List ℕ) (
     → AreLabelsOf holds.setting.parts holds.setting.labels × HasShortNames holds.setting.labels × IsReportOutcome holds.setting.labels o
 stands files after documents report o holds =
     let is = made files after documents holds.setting holds.scene in
-    let labelled = labels_of holds.setting is in
-    (labelled, short_names holds.setting holds.ends.is_instance is labelled,
-    outcome_stands holds.ends.ends_so.formulas holds.setting.parts holds.setting.labels holds.question holds.budget o holds.ends.is_instance labelled holds.in_range holds.ends.ends_so.shows holds.in_form)
+    let labelled = labels_of holds.setting is in (
+      labelled,
+      short_names holds.setting holds.ends.is_instance is labelled,
+      outcome_stands holds.ends.ends_so.formulas holds.setting.parts holds.setting.labels holds.question holds.budget o holds.ends.is_instance labelled holds.in_range holds.ends.ends_so.shows holds.in_form,
+    )
 
 pub designs_are_lawful : AreReadBack → DesignsAreLawful
 designs_are_lawful law words files after documents report o borders plan asked holds has =
