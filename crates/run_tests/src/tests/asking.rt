@@ -89,8 +89,8 @@ pub fn written_by(
     let words = words_of(alloc, words)?;
     let mut out = MemSink::new(alloc, 100_000, Vec::new(alloc))?;
     let found = run::<PlainSolver, _, _>(alloc, words.as_slice(), shelf, &mut out);
-    let text = std::str::from_utf8(out.written())?;
-    Ok((String::from_str(alloc, text)?, found.number()))
+    let text = String::from_utf8(Vec::from_slice(alloc, out.written())?)?;
+    Ok((text, found.number()))
 }
 
 /// Runs on the words, and compares what is printed and the status.

@@ -51,7 +51,8 @@ impl Solver for Starved {
     }
 
     fn into_log(self) -> Log {
-        self.inner.into_log()
+        let Starved { inner } = self;
+        inner.into_log()
     }
 }
 
