@@ -5,7 +5,7 @@ use Rattle.vss_io.specs.Written.{followed_by}
 use Rattle.vss_stages.specs.Stages.{Then, goes_on, stops, Ends as EndsStage, IsSettled}
 use Rattle.vss_stages.specs.declared.stop.Stop.{Stop}
 use Rattle.vss_stages.specs.declared.stop.Stop.TheVariants as stop
-use Rattle.vss_stages.proofs.StageLaws.{then_maps, settled_err}
+use Rattle.vss_stages.proofs.StageLaws.{then_maps}
 use Rattle.vss_jobs.specs.Jobs.{IsJob}
 use Rattle.vss_jobs.specs.Laws.{JobsAreOne}
 use Rattle.vss_jobs.specs.Readings.{Job}
@@ -89,8 +89,18 @@ same_job a b e = cc
 not_stopped : (a : Job) (why : Stop Refusal) → job_ok a ≡ job_err why → ⊥
 not_stopped a why e = cc
 
+abbrev answer_err : Stop Refusal → Result Answer (Stop Refusal)
+answer_err why = Err why
+
+settled_job : (why : Stop Refusal) → IsSettled (answer_err why) → IsSettled (job_err why)
+settled_job stop.Memory is = absurd is
+settled_job (stop.ReadFault input) is = absurd is
+settled_job (stop.TooLong input) is = tt
+settled_job (stop.Refused why) is = tt
+settled_job stop.Usage is = tt
+
 settled_stop : (end : Result Answer (Stop Refusal)) (why : Stop Refusal) → end ≡ Err why → IsSettled end → IsSettled (job_err why)
-settled_stop end why same settled = settled_err Refusal Answer Job why (subst (λ (z : Result Answer (Stop Refusal)). IsSettled z) same settled)
+settled_stop end why same settled = settled_job why (subst (λ (z : Result Answer (Stop Refusal)). IsSettled z) same settled)
 
 same_stop : (a b : Stop Refusal) → job_err a ≡ job_err b → a ≡ b
 same_stop a b e = cc
@@ -98,7 +108,7 @@ same_stop a b e = cc
 stops_alike : (why since : Stop Refusal) → why ≡ since → (r s : Result Answer (Stop Refusal)) → r ≡ Err why → s ≡ Err since → AreToldAlike r s
 stops_alike why since same r s is has =
     subst (λ (x : Result Answer (Stop Refusal)). AreToldAlike x s) (sym is)
-    (subst (λ (y : Result Answer (Stop Refusal)). AreToldAlike (Err why) y) (sym has) (ap (λ (w : Stop Refusal). Err w) same))
+    (subst (λ (y : Result Answer (Stop Refusal)). AreToldAlike (Err why) y) (sym has) (ap answer_err same))
 
 -- any two that are right to say are alike
 right_alike : JobsAreOne → AnswersAreOne → (words : List (List ℕ)) (files after : Files) → IsTrue files.tells → (r s : Result Answer (Stop Refusal)) → IsSettled r → IsSettled s

@@ -46,11 +46,13 @@ sweep_stands p labels t w labelled is = record {
 }
 
 run_stands : (p : InstanceParts) (labels : Labels) (k : ℕ) (t : TrainSpec) (r : TrainRun) → IsInstance p → AreLabelsOf p labels → IsGoodTrain p k t → IsRun p t r → IsReportRun labels r
-run_stands p labels k t r rules labelled good is = record {
-  start = omega (arith, is.enters.not_late, good.in_order, good.in_time, rules.steps.few);
-  not_empty = slice_get_within r.sweeps 0 is.enters.first is.enters.is_first;
-  sweeps = λ j d lt. sweep_stands p labels t (get_or r.sweeps j d) labelled (is.sweeps j d lt);
-}
+run_stands p labels k t r rules labelled good is =
+    let few : p.steps ≤ 400 = rules.steps.few in
+    record {
+      start = omega (arith, is.enters.not_late, good.in_order, good.in_time, few);
+      not_empty = slice_get_within r.sweeps 0 is.enters.first is.enters.is_first;
+      sweeps = λ j d lt. sweep_stands p labels t (get_or r.sweeps j d) labelled (is.sweeps j d lt);
+    }
 
 runs_stand : (p : InstanceParts) (labels : Labels) → IsInstance p → AreLabelsOf p labels → (ts : List TrainSpec) (rs : List TrainRun)
     → ((t : TrainSpec) (k : ℕ) → slice_get ts k ≡ Some t → (place : ℕ) × IsGoodTrain p place t) → AllZip (IsRun p) ts rs → All (IsReportRun labels) rs
@@ -64,10 +66,12 @@ runs_stand p labels rules labelled (t ∷ ts) (r ∷ rs) good all =
 
 -- a lawful design can
 pub design_stands : (p : InstanceParts) (labels : Labels) (borders : List CandidateId) (plan : Plan) → IsInstance p → AreLabelsOf p labels → IsLawful p borders plan → IsReportDesign labels borders plan
-design_stands p labels borders plan rules labelled lawful = record {
-  few = omega (arith, few_borders p borders lawful.layout.set, rules.few_candidates);
-  places = λ k d lt. omega (arith, labelled.places, lawful.layout.set.in_range.at_each k (get_or borders k d) (slice_get-get_or borders k d lt));
-  rising = lawful.layout.set.rising;
-  one_run_each = AllZip-long (IsRun p) p.trains plan.runs lawful.runs ∙ sym labelled.trains;
-  runs = runs_stand p labels rules labelled p.trains plan.runs (λ t k there. (k, rules.trains.at_each k t there)) lawful.runs;
-}
+design_stands p labels borders plan rules labelled lawful =
+    let most : length p.candidates ≤ 512 = rules.few_candidates in
+    record {
+      few = omega (arith, few_borders p borders lawful.layout.set, most);
+      places = λ k d lt. omega (arith, labelled.places, lawful.layout.set.in_range.at_each k (get_or borders k d) (slice_get-get_or borders k d lt));
+      rising = lawful.layout.set.rising;
+      one_run_each = AllZip-long (IsRun p) p.trains plan.runs lawful.runs ∙ sym labelled.trains;
+      runs = runs_stand p labels rules labelled p.trains plan.runs (λ t k there. (k, rules.trains.at_each k t there)) lawful.runs;
+    }

@@ -76,7 +76,8 @@ short_names setting rules made labelled =
     let scene = made.cut.1 in
     let cells : setting.labels.cells ≡ cell_labels scene.tracks = ap (λ (s : Setting). s.labels.cells) made.is ∙ scene.names.cells in
     let places : setting.labels.places ≡ place_labels made.net made.timetable scene.joints scene.tracks = ap (λ (s : Setting). s.labels.places) made.is ∙ scene.names.places in
-    let few : length (cell_labels scene.tracks) ≤ 1000 = omega (arith, sym (ap length cells), labelled.cells, rules.few_cells) in
+    let most : length setting.parts.cells ≤ 1000 = rules.few_cells in
+    let few : length (cell_labels scene.tracks) ≤ 1000 = omega (arith, sym (ap length cells), labelled.cells, most) in
     record {
       cells = subst (All IsShortCell) (sym cells) (short_cells scene.tracks few);
       places = subst (All IsShortPlace) (sym places) (short_places made.net made.timetable scene.joints scene.tracks made.is_timetable.steps.space_at_most few);

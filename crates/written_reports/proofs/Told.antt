@@ -74,10 +74,11 @@ best_stands p labels first later (Some design) rules labelled is = design_stands
 
 outcome_stands : (f : Formulas) (p : InstanceParts) (labels : Labels) (q : Question) (budget : ℕ) (o : Outcome) → IsInstance p → AreLabelsOf p labels → budget ≤ 1000000000
     → Shows f p q budget o → ((r : Refutation) → HasRefutation o r → All IsInRange r.log.steps) → IsReportOutcome labels o
-outcome_stands f p labels q budget (outcome.Done d) rules labelled in_range shows steps = (
-  design_stands p labels d.layout d.plan rules labelled shows.lawful,
-  smaller_stands f p q (length d.layout) d.smaller (omega (arith, few_borders p d.layout shows.lawful.layout.set, rules.few_candidates)) shows.smaller steps,
-)
+outcome_stands f p labels q budget (outcome.Done d) rules labelled in_range shows steps =
+    let most : length p.candidates ≤ 512 = rules.few_candidates in (
+      design_stands p labels d.layout d.plan rules labelled shows.lawful,
+      smaller_stands f p q (length d.layout) d.smaller (omega (arith, few_borders p d.layout shows.lawful.layout.set, most)) shows.smaller steps,
+    )
 outcome_stands f p labels q budget (outcome.Impossible r) rules labelled in_range shows steps =
     refutation_stands f p (first_bound p q) r (first_spelled p q rules.few_candidates) shows (steps r refl)
 outcome_stands f p labels q budget (outcome.Spent n best) rules labelled in_range shows steps =
