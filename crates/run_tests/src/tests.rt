@@ -3,6 +3,7 @@
 
 mod asking;
 mod breaches;
+mod cases;
 mod checking;
 mod documents;
 mod judging;

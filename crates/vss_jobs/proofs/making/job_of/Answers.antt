@@ -16,4 +16,4 @@ pub returns-in-Ok-clause-memory : goal.returns-in-Ok-clause-memory
 returns-in-Ok-clause-memory g c = λ lacks. names_task _ c.in-Ok.asked c.in-Ok.ensures.asked
 
 pub returns-in-Err-NotTaken-clause-job : goal.returns-in-Err-NotTaken-clause-job
-returns-in-Err-NotTaken-clause-job g c = stops Usage c.in-Err-NotTaken.ensures.asked refl
+returns-in-Err-NotTaken-clause-job g c = stops Usage (rw c.in-Err-NotTaken.field-0-is at c.in-Err-NotTaken.ensures.asked) refl
