@@ -28,7 +28,7 @@ use Rattle.timetable.specs.Timetables.{IsTimetable, IsTrainOf}
 use Rattle.timetable.specs.declared.parts.StopPart.{StopPart}
 use Rattle.timetable.specs.declared.parts.TrainPart.{TrainPart}
 use Rattle.timetable.specs.declared.parts.Timetable.{Timetable}
-use Rattle.discretise.specs.Rounding.{HasStepUntil, cells_of, dwell_steps, last_step, latest_entry, step_count, step_from, steps_until}
+use Rattle.discretise.specs.Rounding.{HasStepUntil, length_in_cells, dwell_steps, last_step, latest_entry, step_count, step_from, steps_until}
 use Rattle.discretise.specs.Tracks.{AreGridTracks, cell_total}
 use Rattle.discretise.specs.Cells.{cell, cells_on}
 use Rattle.discretise.specs.Joins.{ends_at}

@@ -14,7 +14,7 @@ use Rattle.rail_net.specs.declared.parts.TrackPart.{TrackPart}
 use Rattle.rail_net.specs.declared.parts.NetParts.{NetParts}
 use Rattle.timetable.specs.Timetables.{IsTimetable}
 use Rattle.timetable.specs.declared.parts.Timetable.{Timetable}
-use Rattle.discretise.specs.Rounding.{advance_of, cells_of, limit_of}
+use Rattle.discretise.specs.Rounding.{advance_of, length_in_cells, limit_of}
 use Rattle.discretise.specs.Tracks.{AreGridTracks, AreLaid, cell_total, cut_total}
 use Rattle.discretise.specs.Cells.{cell_in, cells_on, node, node_before}
 use Rattle.discretise.specs.Refusals.{HasFewCells, HasSomeLimit}
@@ -31,7 +31,7 @@ laid_total p t number first cut (x ∷ parts) [] laid = absurd laid
 laid_total p t number first cut (x ∷ parts) (g ∷ gs) laid =
     let rest = laid_total p t (number + 1) (first + g.count) (cut + (g.count - 1)) parts gs laid.1 in
     let cells : cell_total (g ∷ gs) ≡ g.count + cell_total gs = sum_by-cons (λ (y : GridTrack). y.count) g gs in
-    let own : cells_together t (x ∷ parts) ≡ cells_of t x.length_m + cells_together t parts = sum_by-cons (λ (y : TrackPart). cells_of t y.length_m) x parts in
+    let own : cells_together t (x ∷ parts) ≡ length_in_cells t x.length_m + cells_together t parts = sum_by-cons (λ (y : TrackPart). length_in_cells t y.length_m) x parts in
     omega (arith, laid.0.count)
 
 -- a track on the grid is sound: its numbers are in their ranges, and its nodes differ

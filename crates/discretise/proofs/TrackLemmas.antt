@@ -13,7 +13,7 @@ use Rattle.rail_net.specs.declared.parts.NetParts.{NetParts}
 use Rattle.timetable.specs.declared.parts.Timetable.{Timetable}
 use Rattle.rail_net.specs.declared.parts.NodePart.{NodePart}
 use Rattle.rail_net.specs.Parts.{node_names}
-use Rattle.discretise.specs.Rounding.{HasSteps, cells_of}
+use Rattle.discretise.specs.Rounding.{HasSteps, length_in_cells}
 use Rattle.discretise.specs.Tracks.{AreGridTracks, AreInRange, AreLaid, AreSmall, IsGridTrack, IsTrackInRange, IsSmall, cell_total, cut_total}
 use Rattle.discretise.specs.declared.tracks.GridTrack.{GridTrack}
 
@@ -44,7 +44,7 @@ some_cells metres step some positive = go (div_ceil metres step) (div_ceil_times
 
 -- the cells of the tracks together
 abbrev pub cells_together : Timetable → List TrackPart → ℕ
-cells_together t parts = sum_by (λ x. cells_of t x.length_m) parts
+cells_together t parts = sum_by (λ x. length_in_cells t x.length_m) parts
 
 -- the tracks up to a place are laid, and the next begins with this cell and this cut
 pub record AreLaidBelow (p : NetParts) (t : Timetable) (place : ℕ) (gs : List GridTrack) (first cut : ℕ) : Type 0 where
@@ -62,9 +62,9 @@ pub laid_more : (p : NetParts) (t : Timetable) (place : ℕ) (gs : List GridTrac
 laid_more p t place gs first cut part g new so_far there own is some_m some_step few nodes =
     let within : place < length p.tracks = slice_get_within p.tracks place part there in
     let read : get_or p.tracks place part ≡ part = get_or_from_slice_get p.tracks place part part there in
-    let its : cells_of t (get_or p.tracks place part).length_m ≡ g.count = ap (λ (x : TrackPart). cells_of t x.length_m) read ∙ sym own.count in
-    let all = sum_by_more_le (λ (x : TrackPart). cells_of t x.length_m) p.tracks place part within in
-    let sum = sum_by_more (λ (x : TrackPart). cells_of t x.length_m) p.tracks place part within in
+    let its : length_in_cells t (get_or p.tracks place part).length_m ≡ g.count = ap (λ (x : TrackPart). length_in_cells t x.length_m) read ∙ sym own.count in
+    let all = sum_by_more_le (λ (x : TrackPart). length_in_cells t x.length_m) p.tracks place part within in
+    let sum = sum_by_more (λ (x : TrackPart). length_in_cells t x.length_m) p.tracks place part within in
     let cells : cell_total (gs ++ g ∷ []) ≡ cell_total gs + g.count = sum_by_push (λ (y : GridTrack). y.count) gs g in
     let cuts : cut_total (gs ++ g ∷ []) ≡ cut_total gs + (g.count - 1) = sum_by_push (λ (y : GridTrack). y.count - 1) gs g in
     let some : 0 < g.count = subst (λ n. 0 < n) (sym own.count) (some_cells part.length_m t.space_step_m some_m some_step) in

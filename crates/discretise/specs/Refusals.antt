@@ -11,7 +11,7 @@ use Rattle.rail_net.specs.declared.refusal.ListKind.TheVariants.{Document, Track
 use Rattle.timetable.specs.declared.parts.StopPart.{StopPart}
 use Rattle.timetable.specs.declared.parts.TrainPart.{TrainPart}
 use Rattle.timetable.specs.declared.parts.Timetable.{Timetable}
-use Rattle.discretise.specs.Rounding.{HasStepUntil, advance_of, cells_of, dwell_steps, last_step, limit_of, step_count, step_from, steps_until}
+use Rattle.discretise.specs.Rounding.{HasStepUntil, advance_of, length_in_cells, dwell_steps, last_step, limit_of, step_count, step_from, steps_until}
 use Rattle.discretise.specs.Tracks.{AreGridTracks}
 use Rattle.discretise.specs.Places.{AreFreeJoints, candidates_on}
 use Rattle.discretise.specs.declared.tracks.GridTrack.{GridTrack}
@@ -29,7 +29,7 @@ CutRules = List (OrderRule CutRefusal)
 
 -- not too many cells
 abbrev pub HasFewCells : NetParts → Timetable → Type 0
-HasFewCells p t = sum_by (λ track. cells_of t track.length_m) p.tracks ≤ CELLS
+HasFewCells p t = sum_by (λ track. length_in_cells t track.length_m) p.tracks ≤ CELLS
 
 -- not too many candidates: joints and cuts together
 pub record HasFewCandidates (p : NetParts) (t : Timetable) : Type 0 where
@@ -61,7 +61,7 @@ abbrev pub IsNotTooFast : Timetable → ℕ → TrainPart → Type 0
 IsNotTooFast t place x = advance_of t x.speed_kmh ≤ ADVANCE
 
 abbrev pub IsNotTooLong : Timetable → ℕ → TrainPart → Type 0
-IsNotTooLong t place x = cells_of t x.length_m ≤ LENGTH
+IsNotTooLong t place x = length_in_cells t x.length_m ≤ LENGTH
 
 abbrev pub EntersInTime : Timetable → ℕ → TrainPart → Type 0
 EntersInTime t place x = step_from t x.entry_s < step_count t

@@ -10,8 +10,8 @@ abbrev pub HasSteps : Timetable → Type 0
 HasSteps t = AreGoodSteps t.space_step_m t.time_step_s t.horizon_s
 
 -- a length in cells, rounded up
-abbrev pub cells_of : Timetable → ℕ → ℕ
-cells_of t length_m = div_ceil length_m t.space_step_m
+abbrev pub length_in_cells : Timetable → ℕ → ℕ
+length_in_cells t length_m = div_ceil length_m t.space_step_m
 
 -- how many whole cells a speed covers in a step of time: 18 km/h are 5 m/s
 abbrev pub advance_of : Timetable → ℕ → ℕ

@@ -5,7 +5,7 @@ use Rattle.rail_net.specs.Parts.{IsNode, IsTrackOfSection}
 use Rattle.rail_net.specs.declared.parts.TrackPart.{TrackPart}
 use Rattle.rail_net.specs.declared.parts.NetParts.{NetParts}
 use Rattle.timetable.specs.declared.parts.Timetable.{Timetable}
-use Rattle.discretise.specs.Rounding.{cells_of, limit_of}
+use Rattle.discretise.specs.Rounding.{length_in_cells, limit_of}
 use Rattle.discretise.specs.declared.tracks.GridTrack.{GridTrack}
 
 -- the track of that number is this on the grid, where its first cell and the node of its first cut have these numbers
@@ -16,7 +16,7 @@ pub record IsGridTrack (p : NetParts) (t : Timetable) (place first_cell first_cu
   pub section : IsTrackOfSection p g.section place
   pub limit : g.limit ≡ limit_of t part.limit_kmh
   pub is_virtual : g.is_virtual ≡ part.virtual_ok
-  pub count : g.count ≡ cells_of t part.length_m
+  pub count : g.count ≡ length_in_cells t part.length_m
   pub first : g.first ≡ first_cell
   pub cut : g.cut ≡ first_cut
 

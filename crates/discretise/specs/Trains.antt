@@ -8,7 +8,7 @@ use Rattle.timetable.specs.Ranges.{IsGoodTime}
 use Rattle.timetable.specs.declared.parts.StopPart.{StopPart}
 use Rattle.timetable.specs.declared.parts.TrainPart.{TrainPart}
 use Rattle.timetable.specs.declared.parts.Timetable.{Timetable}
-use Rattle.discretise.specs.Rounding.{advance_of, cells_of, dwell_steps, last_step, latest_entry, step_from, steps_until}
+use Rattle.discretise.specs.Rounding.{advance_of, length_in_cells, dwell_steps, last_step, latest_entry, step_from, steps_until}
 use Rattle.discretise.specs.Joins.{ends_at}
 use Rattle.discretise.specs.declared.tracks.GridTrack.{GridTrack}
 use Rattle.discretise.specs.declared.ends.TrackEnd.{TrackEnd}
@@ -34,7 +34,7 @@ stop_of t s = record {
 -- a train in cells and steps, where these are the ends of tracks at its first and its last node: it enters heading away
 -- from its first node, and leaves heading towards its last
 pub record IsTrainOver (from_ends to_ends : List TrackEnd) (t : Timetable) (x : TrainPart) (s : TrainSpec) : Type 0 where
-  pub its_length : s.length ≡ cells_of t x.length_m
+  pub its_length : s.length ≡ length_in_cells t x.length_m
   pub advance : s.advance ≡ advance_of t x.speed_kmh
   pub entry : IsOneEnd from_ends (tail_of s.entry)
   pub goal : IsOneEnd to_ends (head_of s.goal)

@@ -2,7 +2,7 @@
 
 ghost use Rattle.std.specs.Prelude.{◌≡◌, ◌≤◌, ◌↔◌, ◌<◌, ◌+◌, ◌-◌, ◌^◌, IsTrue, IfOk, Some, length, slice_get, sum_by};
 ghost use Rattle.timetable.specs.Timetables.{IsTimetable};
-ghost use Rattle.discretise.specs.Rounding.{HasSteps, cells_of as cells_of_length};
+ghost use Rattle.discretise.specs.Rounding.{HasSteps, length_in_cells as cells_of_length};
 ghost use Rattle.discretise.specs.Tracks.{AreGridTracks, AreInRange, AreSmall, IsGridTrack, cut_total as cuts_of_tracks};
 ghost use Rattle.discretise.specs.Refusals.{HasFewCells};
 

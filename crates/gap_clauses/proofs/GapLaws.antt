@@ -22,7 +22,7 @@ use Rattle.gap_clauses.specs.Fans.{FanParts, IsFanOf, ends_in, has_node, walks_t
 use Rattle.gap_clauses.specs.Gaps.{AreCandidatesOf, AreGaps, AreGapsBetween, walks_of}
 use Rattle.gap_clauses.specs.Searched.{AreSearchedBelow, IsNoHigher}
 use Rattle.gap_clauses.specs.Views.{candidate_of, candidates_from, candidates_on, candidates_to, cell_of, is_on}
-use Rattle.gap_clauses.specs.Walks.{Step, AreWalks, IsBefore, IsWalk, Leads, end_of}
+use Rattle.gap_clauses.specs.Walks.{Step, AreWalks, IsWalkBefore, IsWalk, Leads, end_of}
 use Rattle.gap_clauses.proofs.FanLemmas.{ends_yes}
 use Rattle.gap_clauses.proofs.ListLemmas.{Contains-filter, Contains-from_filter, no_more_than}
 use Rattle.gap_clauses.proofs.Shortening.{same_section}
@@ -85,7 +85,7 @@ fan_walks p e f fan are = subst (λ first. AreWalks p e f (walks_to first fan.wa
     λ walk. let ends : end_of e w ≡ f = leads_end p e w f walk.leads in
         Contains-filter (ends_in e f) fan.walks w ((are.all.each w).1 (subst (IsWalk p e w) (sym ends) walk, tt)) (ends_yes e f w (ap (λ (c : CellId). c.0) ends)),
   );
-  in_order = AllPairs-filter IsBefore (ends_in e f) fan.walks are.all.in_order;
+  in_order = AllPairs-filter IsWalkBefore (ends_in e f) fan.walks are.all.in_order;
 })
 
 -- the walks of two cells, as the fans tell them

@@ -9,8 +9,8 @@ use Rattle.cell_net.specs.Rules.{IsInstance}
 use Rattle.cell_net.specs.declared.ids.CellId.{CellId}
 use Rattle.cell_net.specs.declared.ids.NodeId.{NodeId}
 use Rattle.cell_net.specs.declared.parts.InstanceParts.{InstanceParts}
-use Rattle.gap_clauses.specs.Walks.{Step, Shares, IsWalkFrom, IsLess, IsBefore, end_of, node_numbers, cell_numbers}
-use Rattle.gap_clauses.specs.Fans.{behind, AreListed, IsOverNodes, IsUpTo, GoesOn, IsDone, IsSkipped, GoesOverNext}
+use Rattle.gap_clauses.specs.Walks.{Step, Shares, IsWalkFrom, IsLess, IsWalkBefore, end_of, node_numbers, cell_numbers}
+use Rattle.gap_clauses.specs.Fans.{behind, AreListed, IsOverNodes, IsUpTo, GoesOnOver, IsDone, IsSkipped, GoesOverNext}
 use Rattle.gap_clauses.proofs.ListLemmas.{nothing_in_nil}
 use Rattle.gap_clauses.proofs.WalkLaws.{parted, same_node, step_to, walk_push, walk_split, shares_node}
 
@@ -80,12 +80,12 @@ same_listed p e P Q walks same old = record {
 
 -- further over the nodes up to none is no further
 pub done_none : (p : InstanceParts) (e : CellId) (ms : List ℕ) (walks : List (List Step)) → AreListed p e (IsUpTo ms) walks → AreListed p e (IsDone ms 0) walks
-unfolding IsDone GoesOn
+unfolding IsDone GoesOnOver
 done_none p e ms walks old = same_listed p e (IsUpTo ms) (IsDone ms 0) walks (λ w walk. (λ up. inl up, λ done. elim done [ inl up ↦ up | inr on ↦ absurd (let low : on.0 < 0 = on.3 in omega arith) ])) old
 
 -- up to the nodes with one more: done below it, or over exactly these
 done_less : (ms : List ℕ) (n : ℕ) (w : List Step) → IsDone ms n w → IsLess (node_numbers w) (ms ++ n ∷ [])
-unfolding IsDone IsUpTo GoesOn
+unfolding IsDone IsUpTo GoesOnOver
 done_less ms n w done = elim done [
   | inl up ↦ elim up [
     | inl less ↦ less_more (node_numbers w) ms (n ∷ []) less
@@ -95,7 +95,7 @@ done_less ms n w done = elim done [
 ]
 
 less_done : (ms : List ℕ) (n : ℕ) (w : List Step) → IsLess (node_numbers w) (ms ++ n ∷ []) → IsDone ms n w
-unfolding IsDone IsUpTo GoesOn
+unfolding IsDone IsUpTo GoesOnOver
 less_done ms n w less = elim (before_push ms n (node_numbers w) less) [
   | inl lower ↦ inl (inl lower)
   | inr other ↦ elim other [
@@ -105,7 +105,7 @@ less_done ms n w less = elim (before_push ms n (node_numbers w) less) [
 ]
 
 pub listed_push : (p : InstanceParts) (e : CellId) (ms : List ℕ) (n : ℕ) (old more new : List (List Step)) → AreListed p e (IsDone ms n) old → AreListed p e (IsOverNodes (ms ++ n ∷ [])) more → new ≡ old ++ more → AreListed p e (IsUpTo (ms ++ n ∷ [])) new
-unfolding IsUpTo IsOverNodes IsBefore
+unfolding IsUpTo IsOverNodes IsWalkBefore
 listed_push p e ms n old more new before here is = subst (AreListed p e (IsUpTo (ms ++ n ∷ []))) (sym is) (record {
   each = λ w. (
     λ there. elim (Contains-append_cases old more w there) [
@@ -117,7 +117,7 @@ listed_push p e ms n old more new before here is = subst (AreListed p e (IsUpTo 
       | inr same ↦ Contains-append_right old more w ((here.each w).1 (both.0, same))
     ],
   );
-  in_order = AllPairs-append IsBefore old more before.in_order here.in_order (λ v w early late.
+  in_order = AllPairs-append IsWalkBefore old more before.in_order here.in_order (λ v w early late.
       let low = done_less ms n v ((before.each v).0 early).1 in
       let same : node_numbers w ≡ ms ++ n ∷ [] = ((here.each w).0 late).1 in
       inl (subst (IsLess (node_numbers v)) (sym same) low));
@@ -133,7 +133,7 @@ node_is_node p e w before n behind rules walk is =
 
 -- a walk over the nodes with one more and whatever follows
 further : (p : InstanceParts) (e : CellId) (ms : List ℕ) (n : ℕ) (w : List Step) (rest : List ℕ) → IsInstance p → IsWalkFrom p e w → node_numbers w ≡ ms ++ n ∷ rest → IsDone (ms ++ n ∷ []) p.nodes w
-unfolding IsDone IsUpTo GoesOn
+unfolding IsDone IsUpTo GoesOnOver
 further p e ms n w [] rules walk is = inl (inr is)
 further p e ms n w (m ∷ rest) rules walk is =
     let same : node_numbers w ≡ (ms ++ n ∷ []) ++ m ∷ rest = is ∙ sym (append_assoc ms (n ∷ []) (m ∷ rest)) in
@@ -141,7 +141,7 @@ further p e ms n w (m ∷ rest) rules walk is =
 
 -- all over the nodes with one more and whatever follows
 pub done_more : (p : InstanceParts) (e : CellId) (ms : List ℕ) (n : ℕ) (walks : List (List Step)) → IsInstance p → AreListed p e (IsDone (ms ++ n ∷ []) p.nodes) walks → AreListed p e (IsDone ms (n + 1)) walks
-unfolding IsDone IsUpTo GoesOn
+unfolding IsDone IsUpTo GoesOnOver
 done_more p e ms n walks rules old = same_listed p e (IsDone (ms ++ n ∷ []) p.nodes) (IsDone ms (n + 1)) walks (λ w walk. (
   λ done. elim done [
     | inl up ↦ elim up [
@@ -187,7 +187,7 @@ begun p e ms n w rest walk is =
 
 -- no walk goes over exactly the nodes with one more
 pub done_alone : (p : InstanceParts) (e : CellId) (ms : List ℕ) (n : ℕ) (walks : List (List Step)) → AreListed p e (IsUpTo (ms ++ n ∷ [])) walks → AreListed p e (IsOverNodes (ms ++ n ∷ [])) [] → AreListed p e (IsDone ms (n + 1)) walks
-unfolding IsDone IsUpTo GoesOn IsOverNodes
+unfolding IsDone IsUpTo GoesOnOver IsOverNodes
 done_alone p e ms n walks old none = same_listed p e (IsUpTo (ms ++ n ∷ [])) (IsDone ms (n + 1)) walks (λ w walk. (
   λ up. elim up [
     | inl less ↦ elim (less_done ms n w less) [ inl early ↦ inl early | inr on ↦ inr (on.0, on.1, on.2, omega (arith, on.3)) ]
@@ -219,7 +219,7 @@ skipped p e ms below next group w m rest here all walk is =
 
 pub done_next : (p : InstanceParts) (e : CellId) (ms : List ℕ) (below : ℕ) (next : NodeId) (group walks : List (List Step)) → AreListed p e (IsOverNodes ms) group → All (GoesOverNext p e below (Some next)) group → below ≤ next.0 →
     AreListed p e (IsDone ms below) walks → AreListed p e (IsDone ms next.0) walks
-unfolding IsDone GoesOn
+unfolding IsDone GoesOnOver
 done_next p e ms below next group walks here all high old = same_listed p e (IsDone ms below) (IsDone ms next.0) walks (λ w walk. (
   λ done. elim done [ inl up ↦ inl up | inr on ↦ inr (on.0, on.1, on.2, omega (arith, on.3)) ],
   λ done. elim done [
@@ -233,7 +233,7 @@ done_next p e ms below next group walks here all high old = same_listed p e (IsD
 
 pub done_last : (p : InstanceParts) (e : CellId) (ms : List ℕ) (below : ℕ) (group walks : List (List Step)) → IsInstance p → AreListed p e (IsOverNodes ms) group → All (GoesOverNext p e below None) group →
     AreListed p e (IsDone ms below) walks → AreListed p e (IsDone ms p.nodes) walks
-unfolding IsDone GoesOn
+unfolding IsDone GoesOnOver
 done_last p e ms below group walks rules here all old = same_listed p e (IsDone ms below) (IsDone ms p.nodes) walks (λ w walk. (
   λ done. elim done [ inl up ↦ inl up | inr on ↦ inr (on.0, on.1, on.2, node_is_node p e w ms on.0 on.1 rules walk on.2) ],
   λ done. elim done [
@@ -262,7 +262,7 @@ first_only : (p : InstanceParts) (e : CellId) (w : List Step) → Contains ([] �
 first_only p e w there = let both = first_walk_only p e w there in (both.0, inr both.1)
 
 every : (p : InstanceParts) (e : CellId) → IsInstance p → (w : List Step) → IsWalkFrom p e w → IsDone [] p.nodes w
-unfolding IsDone IsUpTo GoesOn
+unfolding IsDone IsUpTo GoesOnOver
 every p e rules [] walk = inl (inr refl)
 every p e rules (s ∷ w) walk = inr (s.node.0, node_numbers w, refl, node_is_node p e (s ∷ w) [] s.node.0 (node_numbers w) rules walk refl)
 
@@ -281,5 +281,5 @@ first_group p e = record {
 }
 
 pub all_listed : (p : InstanceParts) (e : CellId) (walks : List (List Step)) → IsInstance p → AreListed p e (IsDone [] p.nodes) walks → AreListed p e (λ w. Unit {0}) walks
-unfolding IsDone IsUpTo GoesOn
+unfolding IsDone IsUpTo GoesOnOver
 all_listed p e walks rules old = same_listed p e (IsDone [] p.nodes) (λ w. Unit {0}) walks (λ w walk. (λ done. tt, λ any. every p e rules w walk)) old

@@ -4,7 +4,7 @@ use Rattle.std.specs.Prelude.{AllPairs, Contains, ◌↔◌}
 use Rattle.vss_rows.proofs.JoinedLaws.{AllPairs-tail, AllPairs-head}
 use Rattle.cell_net.specs.declared.ids.CellId.{CellId}
 use Rattle.cell_net.specs.declared.parts.InstanceParts.{InstanceParts}
-use Rattle.gap_clauses.specs.Walks.{Step, IsLess, IsBefore, node_numbers}
+use Rattle.gap_clauses.specs.Walks.{Step, IsLess, IsWalkBefore, node_numbers}
 use Rattle.gap_clauses.specs.Laws.{AreListedOnce}
 
 pub not_less_itself : (xs : List ℕ) → ¬ IsLess xs xs
@@ -20,8 +20,8 @@ not_less_back (x ∷ xs) (y ∷ ys) forth back = elim forth [
   | inr both ↦ elim back [ inl high ↦ omega (arith, both.0) | inr again ↦ not_less_back xs ys both.1 again.1 ]
 ]
 
-pub not_before_back : (one other : List Step) → IsBefore one other → ¬ IsBefore other one
-unfolding IsBefore
+pub not_before_back : (one other : List Step) → IsWalkBefore one other → ¬ IsWalkBefore other one
+unfolding IsWalkBefore
 not_before_back one other forth back = elim forth [
   | inl low ↦ elim back [
     | inl high ↦ not_less_back _ _ low high
@@ -58,4 +58,4 @@ same_lists R strict (x ∷ xs) (y ∷ ys) up vp same =
     cc
 
 pub listed_once : (p : InstanceParts) (e f : CellId) → AreListedOnce p e f
-listed_once p e f one other are also = same_lists IsBefore not_before_back one other are.in_order also.in_order (λ w. (λ there. (also.each w).1 ((are.each w).0 there), λ there. (are.each w).1 ((also.each w).0 there)))
+listed_once p e f one other are also = same_lists IsWalkBefore not_before_back one other are.in_order also.in_order (λ w. (λ there. (also.each w).1 ((are.each w).0 there), λ there. (are.each w).1 ((also.each w).0 there)))

@@ -12,7 +12,7 @@ use Rattle.cell_net.specs.declared.ids.CellId.{CellId}
 use Rattle.cell_net.specs.declared.ids.NodeId.{NodeId}
 use Rattle.cell_net.specs.declared.cells.CellSpec.{CellSpec}
 use Rattle.cell_net.specs.declared.parts.InstanceParts.{InstanceParts}
-use Rattle.gap_clauses.specs.Walks.{Step, Shares, IsWalkFrom, IsLess, IsBefore, end_of, node_numbers, cell_numbers, cells_of}
+use Rattle.gap_clauses.specs.Walks.{Step, Shares, IsWalkFrom, IsLess, IsWalkBefore, end_of, node_numbers, cell_numbers, step_cells}
 use Rattle.gap_clauses.specs.Fans.{has_node, visits, longer, over, all_over, behind, AreBehind, AreRows, AreListed, IsOverNodes}
 use Rattle.gap_clauses.proofs.ListLemmas.{nothing_in_nil}
 use Rattle.gap_clauses.proofs.OrderLaws.{not_less_itself}
@@ -104,13 +104,13 @@ to_over p rows first n w c new_node new_cell among =
     subst (λ us. Contains us (w ++ step_to n c ∷ [])) (sym (over_yes p rows first n w new_node)) (Contains-flat_map (longer first n w) (behind p rows (end_of first w) n) c (w ++ step_to n c ∷ []) among one)
 
 -- the end of a walk is among its cells
-end_among : (e : CellId) (w : List Step) → Contains (e ∷ cells_of w) (end_of e w)
+end_among : (e : CellId) (w : List Step) → Contains (e ∷ step_cells w) (end_of e w)
 end_among e [] = (0, omega arith, refl)
 end_among e (s ∷ w) = let there = end_among s.cell w in (suc there.0, omega (arith, there.1), there.2)
 
 -- longer walks of equal nodes, in order
-longer_before : (v w : List Step) (n : NodeId) (c d : CellId) → node_numbers v ≡ node_numbers w → IsBefore v w → IsBefore (v ++ step_to n c ∷ []) (w ++ step_to n d ∷ [])
-unfolding IsBefore
+longer_before : (v w : List Step) (n : NodeId) (c d : CellId) → node_numbers v ≡ node_numbers w → IsWalkBefore v w → IsWalkBefore (v ++ step_to n c ∷ []) (w ++ step_to n d ∷ [])
+unfolding IsWalkBefore
 longer_before v w n c d same before = elim before [
   | inl low ↦ absurd (not_less_itself (node_numbers v) (subst (IsLess (node_numbers v)) (sym same) low))
   | inr both ↦ inr (
@@ -120,28 +120,28 @@ longer_before v w n c d same before = elim before [
   )
 ]
 
-longer_rises : (w : List Step) (n : NodeId) (c d : CellId) → c.0 < d.0 → IsBefore (w ++ step_to n c ∷ []) (w ++ step_to n d ∷ [])
-unfolding IsBefore
+longer_rises : (w : List Step) (n : NodeId) (c d : CellId) → c.0 < d.0 → IsWalkBefore (w ++ step_to n c ∷ []) (w ++ step_to n d ∷ [])
+unfolding IsWalkBefore
 longer_rises w n c d low = inr (
   nodes_push w n c ∙ sym (nodes_push w n d),
   subst (λ cs. IsLess cs (cell_numbers (w ++ step_to n d ∷ []))) (sym (cells_push w n c)) (subst (IsLess (cell_numbers w ++ c.0 ∷ [])) (sym (cells_push w n d)) (less_at (cell_numbers w) c.0 d.0 [] [] low)),
 )
 
-one_in_order : (first : CellId) (n : NodeId) (w : List Step) (c : CellId) → AllPairs IsBefore (longer first n w c)
+one_in_order : (first : CellId) (n : NodeId) (w : List Step) (c : CellId) → AllPairs IsWalkBefore (longer first n w c)
 one_in_order first n w c = elim (cases_Bool (visits first c w)) [
-  | inl has ↦ subst (AllPairs IsBefore) (sym (longer_no first n w c has)) (λ i j d low high. absurd (omega arith))
-  | inr new ↦ subst (AllPairs IsBefore) (sym (longer_yes first n w c new)) (λ i j d low high. absurd (omega arith))
+  | inl has ↦ subst (AllPairs IsWalkBefore) (sym (longer_no first n w c has)) (λ i j d low high. absurd (omega arith))
+  | inr new ↦ subst (AllPairs IsWalkBefore) (sym (longer_yes first n w c new)) (λ i j d low high. absurd (omega arith))
 ]
 
-over_in_order : (p : InstanceParts) (rows : List (List CellId)) (first : CellId) (n : NodeId) (w : List Step) → AllPairs (λ (c d : CellId). c.0 < d.0) (behind p rows (end_of first w) n) → AllPairs IsBefore (over p rows first n w)
+over_in_order : (p : InstanceParts) (rows : List (List CellId)) (first : CellId) (n : NodeId) (w : List Step) → AllPairs (λ (c d : CellId). c.0 < d.0) (behind p rows (end_of first w) n) → AllPairs IsWalkBefore (over p rows first n w)
 over_in_order p rows first n w rising = elim (cases_Bool (has_node n w)) [
-  | inl has ↦ subst (AllPairs IsBefore) (sym (over_no p rows first n w has)) (λ i j d low high. absurd (omega arith))
-  | inr new ↦ subst (AllPairs IsBefore) (sym (over_yes p rows first n w new)) (AllPairs-flat_map (λ (c d : CellId). c.0 < d.0) IsBefore (longer first n w) (behind p rows (end_of first w) n) rising
+  | inl has ↦ subst (AllPairs IsWalkBefore) (sym (over_no p rows first n w has)) (λ i j d low high. absurd (omega arith))
+  | inr new ↦ subst (AllPairs IsWalkBefore) (sym (over_yes p rows first n w new)) (AllPairs-flat_map (λ (c d : CellId). c.0 < d.0) IsWalkBefore (longer first n w) (behind p rows (end_of first w) n) rising
       (λ c among. one_in_order first n w c)
       (λ c d u v among_c among_d low at_u at_v.
       let is_u : u ≡ w ++ step_to n c ∷ [] = (from_longer first n w u c at_u).1 in
       let is_v : v ≡ w ++ step_to n d ∷ [] = (from_longer first n w v d at_v).1 in
-      subst (λ x. IsBefore x v) (sym is_u) (subst (IsBefore (w ++ step_to n c ∷ [])) (sym is_v) (longer_rises w n c d low))))
+      subst (λ x. IsWalkBefore x v) (sym is_u) (subst (IsWalkBefore (w ++ step_to n c ∷ [])) (sym is_v) (longer_rises w n c d low))))
 ]
 
 no_rest : (w : List Step) → node_numbers w ≡ [] → w ≡ []
@@ -172,15 +172,15 @@ group_over p rows e ms n group are here old = record {
         let shares : Shares p (end_of e part.begin) n part.step.cell = subst (λ (m : NodeId). Shares p (end_of e part.begin) m part.step.cell) node_is split.shares in
         let new_node : has_node n part.begin ≡ false = subst (λ (m : NodeId). has_node m part.begin ≡ false) node_is split.new_node in
         let among : Contains (behind p rows (end_of e part.begin) n) part.step.cell = ((behind_is p rows (end_of e part.begin) n are (end_is_cell p e part.begin (end_of e part.begin) here split.begin.leads)).which part.step.cell).1
-        (shares, λ same. no_visit e part.step.cell part.begin split.new_cell (subst (Contains (e ∷ cells_of part.begin)) (sym same) (end_among e part.begin))) in
+        (shares, λ same. no_visit e part.step.cell part.begin split.new_cell (subst (Contains (e ∷ step_cells part.begin)) (sym same) (end_among e part.begin))) in
         subst (Contains (all_over p rows e n group)) (sym whole) (Contains-flat_map (over p rows e n) group part.begin (part.begin ++ step_to n part.step.cell ∷ [])
         ((old.each part.begin).1 (split.begin, part.begin_is)) (to_over p rows e n part.begin part.step.cell new_node split.new_cell among)),
   );
-  in_order = AllPairs-flat_map IsBefore IsBefore (over p rows e n) group old.in_order
+  in_order = AllPairs-flat_map IsWalkBefore IsWalkBefore (over p rows e n) group old.in_order
       (λ w among. let walk = ((old.each w).0 among).0 in over_in_order p rows e n w (behind_is p rows (end_of e w) n are (end_is_cell p e w (end_of e w) here walk.leads)).rising)
       (λ v w u x among_v among_w before at_u at_x.
       let one = from_over p rows e n v u at_u in
       let other = from_over p rows e n w x at_x in
       let same : node_numbers v ≡ node_numbers w = ((old.each v).0 among_v).1 ∙ sym ((old.each w).0 among_w).1 in
-      subst (λ y. IsBefore y x) (sym one.is) (subst (IsBefore (v ++ step_to n one.cell ∷ [])) (sym other.is) (longer_before v w n one.cell other.cell same before)));
+      subst (λ y. IsWalkBefore y x) (sym one.is) (subst (IsWalkBefore (v ++ step_to n one.cell ∷ [])) (sym other.is) (longer_before v w n one.cell other.cell same before)));
 }

@@ -19,9 +19,9 @@ use Rattle.cell_net.specs.declared.ids.NodeId.{NodeId}
 use Rattle.cell_net.specs.declared.parts.InstanceParts.{InstanceParts}
 use Rattle.gap_clauses.specs.declared.fan.Stop.{Stop}
 use Rattle.gap_clauses.specs.declared.fan.Stop.TheVariants.{TooMany, Memory}
-use Rattle.gap_clauses.specs.Walks.{Step, IsWalk, IsWalkFrom, IsBefore, end_of, node_numbers}
+use Rattle.gap_clauses.specs.Walks.{Step, IsWalk, IsWalkFrom, IsWalkBefore, end_of, node_numbers}
 use Rattle.gap_clauses.specs.Crowds.{IsCrowdedFrom}
-use Rattle.gap_clauses.specs.Fans.{FanParts, AreListed, AreRows, GoesOverNext, IsDone, IsGroup, IsOver, IsOverNodes, IsReady, IsFanOf, IsSearchStop, IsSkipped, IsStop, IsUpTo, LeadToCells, all_over, ends_in, nodes_at, walk_at, walks_to}
+use Rattle.gap_clauses.specs.Fans.{FanParts, AreListed, AreRows, GoesOverNext, IsDone, IsGroup, IsOver, IsOverNodes, IsSearchState, IsFanOf, IsSearchStop, IsSkipped, IsStop, IsUpTo, LeadToCells, all_over, ends_in, nodes_at, walk_at, walks_to}
 use Rattle.gap_clauses.proofs.ListLemmas.{Contains-from_filter}
 use Rattle.gap_clauses.proofs.OrderLaws.{not_before_back}
 use Rattle.gap_clauses.proofs.ListedLaws.{all_listed, first_group, first_listed, done_alone, done_last, done_more, done_next, listed_push}
@@ -101,8 +101,8 @@ listed_lead p e P walks here listed k d within =
     let walk : IsWalkFrom p e (get_or walks k d) = ((listed.each (get_or walks k d)).0 (Contains-get_or walks k d within)).0 in
     end_is_cell p e (get_or walks k d) (end_of e (get_or walks k d)) here walk.leads
 
-before_differs : (one other : List Step) → IsBefore one other → one ≢ other
-before_differs one other before same = let self : IsBefore one one = subst (IsBefore one) (sym same) before in not_before_back one one self self
+before_differs : (one other : List Step) → IsWalkBefore one other → one ≢ other
+before_differs one other before same = let self : IsWalkBefore one one = subst (IsWalkBefore one) (sym same) before in not_before_back one one self self
 
 -- listed walks with too many to a cell
 pub crowded : (p : InstanceParts) (e : CellId) (P : List Step → Type 0) (walks : List (List Step)) → AreListed p e P walks → IsOver e walks → IsCrowdedFrom p e
@@ -115,7 +115,7 @@ crowded p e P walks listed (f, many) = (
         let w : List Step = get_or (walks_to e walks f) k d in
         let there = Contains-from_filter (ends_in e f) walks w (Contains-get_or (walks_to e walks f) k d within) in
         subst (IsWalk p e w) (same_cell (end_of e w) f (eqb-true _ _ there.1)) ((listed.each w).0 there.0).0;
-    no_walk_twice = λ i j d low high. before_differs _ _ (AllPairs-filter IsBefore (ends_in e f) walks listed.in_order i j d low high);
+    no_walk_twice = λ i j d low high. before_differs _ _ (AllPairs-filter IsWalkBefore (ends_in e f) walks listed.in_order i j d low high);
     many = omega (arith, many, length-filter (ends_in e f) walks);
   },
 )
@@ -207,8 +207,8 @@ goes_more p first below next lower walks from end place spec above under within 
     (λ s m here at. let same : s ≡ spec = same_Some _ _ (sym here ∙ is) in elim (subst (λ (x : CellSpec). IsAtEnd x m) same at) [ inl low ↦ subst (IsSkipped below lower) low at_low | inr high ↦ subst (IsSkipped below lower) high at_high ]))
 
 -- a search begins
-pub ready_first : (p : InstanceParts) (rows : List (List CellId)) (e : CellId) (fan : FanParts) → IsInstance p → AreRows p rows → IsCell p e → fan ≡ record { first = e; cells = length p.cells; walks = [] ∷ [] } → IsReady p rows fan 0
-ready_first p rows e fan rules are here is = subst (λ (v : FanParts). IsReady p rows v 0) (sym is) (record {
+pub ready_first : (p : InstanceParts) (rows : List (List CellId)) (e : CellId) (fan : FanParts) → IsInstance p → AreRows p rows → IsCell p e → fan ≡ record { first = e; cells = length p.cells; walks = [] ∷ [] } → IsSearchState p rows fan 0
+ready_first p rows e fan rules are here is = subst (λ (v : FanParts). IsSearchState p rows v 0) (sym is) (record {
   rules = rules;
   are_rows = are;
   first = here;
@@ -227,15 +227,15 @@ fan_found p e fan found rules is first cells listed few = record {
 }
 
 -- the walks over one node more, as a search finds them
-pub visit_over : (p : InstanceParts) (rows : List (List CellId)) (fan : FanParts) (from end : ℕ) (first : CellId) (now new : List (List Step)) (below : ℕ) (n : NodeId) → IsReady p rows fan from → end ≡ length fan.walks → first ≡ fan.first →
+pub visit_over : (p : InstanceParts) (rows : List (List CellId)) (fan : FanParts) (from end : ℕ) (first : CellId) (now new : List (List Step)) (below : ℕ) (n : NodeId) → IsSearchState p rows fan from → end ≡ length fan.walks → first ≡ fan.first →
     take (length fan.walks) now ≡ fan.walks → AreListed p fan.first (IsDone (nodes_at fan.walks from) below) now → below ≤ n.0 → All (GoesOverNext p first below (Some n)) (slice_range now from end) →
     new ≡ now ++ all_over p rows first n (slice_range now from end) → AreFurther p fan.first (nodes_at fan.walks from) n.0 now new
 visit_over p rows fan from end first now new below n ready is same kept listed low goes more =
     further_over p rows fan.first fan.walks now new from end below n ready.rules ready.are_rows ready.first ready.group is kept listed low (subst (λ e. All (GoesOverNext p e below (Some n)) (slice_range now from end)) same goes)
     (more ∙ ap (λ e. now ++ all_over p rows e n (slice_range now from end)) same)
 
-pub visit_ready : (p : InstanceParts) (rows : List (List CellId)) (fan next : FanParts) (from begin : ℕ) (n : ℕ) (now : List (List Step)) → IsReady p rows fan from → AreFurther p fan.first (nodes_at fan.walks from) n now next.walks → next.first ≡ fan.first → next.cells ≡ fan.cells →
-    begin ≡ length now → begin < length next.walks → IsReady p rows next begin
+pub visit_ready : (p : InstanceParts) (rows : List (List CellId)) (fan next : FanParts) (from begin : ℕ) (n : ℕ) (now : List (List Step)) → IsSearchState p rows fan from → AreFurther p fan.first (nodes_at fan.walks from) n now next.walks → next.first ≡ fan.first → next.cells ≡ fan.cells →
+    begin ≡ length now → begin < length next.walks → IsSearchState p rows next begin
 visit_ready p rows fan next from begin n now ready further first cells is some = record {
   rules = ready.rules;
   are_rows = ready.are_rows;
@@ -244,7 +244,7 @@ visit_ready p rows fan next from begin n now ready further first cells is some =
   group = subst (λ e. IsGroup p e next.walks begin) (sym first) (subst (IsGroup p fan.first next.walks) (sym is) (further_group p fan.first (nodes_at fan.walks from) n now next.walks further (omega (arith, is, some))));
 }
 
-pub visit_smaller : (p : InstanceParts) (rows : List (List CellId)) (fan next : FanParts) (from begin : ℕ) (n : ℕ) (now : List (List Step)) → IsReady p rows fan from → AreFurther p fan.first (nodes_at fan.walks from) n now next.walks → next.first ≡ fan.first → next.cells ≡ fan.cells →
+pub visit_smaller : (p : InstanceParts) (rows : List (List CellId)) (fan next : FanParts) (from begin : ℕ) (n : ℕ) (now : List (List Step)) → IsSearchState p rows fan from → AreFurther p fan.first (nodes_at fan.walks from) n now next.walks → next.first ≡ fan.first → next.cells ≡ fan.cells →
     begin ≡ length now → begin < length next.walks → length p.cells - length (walk_at next.walks begin) < length p.cells - length (walk_at fan.walks from)
 visit_smaller p rows fan next from begin n now ready further first cells is some =
     let again = visit_ready p rows fan next from begin n now ready further first cells is some in
@@ -256,7 +256,7 @@ visit_smaller p rows fan next from begin n now ready further first cells is some
     let short = walk_is_short p next.first (walk_at next.walks begin) again.first walk in
     omega (arith, here, there, more, short)
 
-pub visit_done : (p : InstanceParts) (rows : List (List CellId)) (fan : FanParts) (from end below : ℕ) (first : CellId) (now : List (List Step)) → IsReady p rows fan from → end ≡ length fan.walks → first ≡ fan.first → take (length fan.walks) now ≡ fan.walks →
+pub visit_done : (p : InstanceParts) (rows : List (List CellId)) (fan : FanParts) (from end below : ℕ) (first : CellId) (now : List (List Step)) → IsSearchState p rows fan from → end ≡ length fan.walks → first ≡ fan.first → take (length fan.walks) now ≡ fan.walks →
     AreListed p fan.first (IsDone (nodes_at fan.walks from) below) now → All (GoesOverNext p first below None) (slice_range now from end) → AreListed p fan.first (IsDone (nodes_at fan.walks from) p.nodes) now
 visit_done p rows fan from end below first now ready is same kept listed goes =
     let here : slice_range now from end ≡ drop from fan.walks = group_kept fan.walks now from end (omega (arith, is, ready.group.within)) is kept in
@@ -267,7 +267,7 @@ pub visit_leads : (p : InstanceParts) (first e : CellId) (P : List Step → Type
 visit_leads p first e P walks same here listed = subst (λ x. LeadToCells p x walks) (sym same) (listed_lead p e P walks here listed)
 
 -- what the loop keeps: behind a group that was visited, and where there was none
-pub visit_on : (p : InstanceParts) (rows : List (List CellId)) (fan next last : FanParts) (from begin n m : ℕ) (now : List (List Step)) → IsReady p rows fan from → AreFurther p fan.first (nodes_at fan.walks from) n now next.walks →
+pub visit_on : (p : InstanceParts) (rows : List (List CellId)) (fan next last : FanParts) (from begin n m : ℕ) (now : List (List Step)) → IsSearchState p rows fan from → AreFurther p fan.first (nodes_at fan.walks from) n now next.walks →
     next.first ≡ fan.first → next.cells ≡ fan.cells → begin ≡ length now → begin < length next.walks → take (length fan.walks) now ≡ fan.walks → last.first ≡ next.first → last.cells ≡ next.cells → take (length next.walks) last.walks ≡ next.walks →
     AreListed p next.first (IsDone (nodes_at next.walks begin) p.nodes) last.walks → m ≡ n →
     (last.first ≡ fan.first) × (last.cells ≡ fan.cells) × (take (length fan.walks) last.walks ≡ fan.walks) × AreListed p fan.first (IsDone (nodes_at fan.walks from) (m + 1)) last.walks

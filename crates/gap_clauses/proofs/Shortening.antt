@@ -17,7 +17,7 @@ use Rattle.cell_net.specs.declared.ids.SectionId.{SectionId}
 use Rattle.cell_net.specs.declared.ids.CandidateId.{CandidateId}
 use Rattle.cell_net.specs.declared.cells.CellSpec.{CellSpec}
 use Rattle.cell_net.specs.declared.parts.InstanceParts.{InstanceParts}
-use Rattle.gap_clauses.specs.Walks.{Step, nodes_of, cells_of, Shares, Leads, IsWalk}
+use Rattle.gap_clauses.specs.Walks.{Step, step_nodes, step_cells, Shares, Leads, IsWalk}
 use Rattle.gap_clauses.specs.Laws.{IsCut, CutSeparates}
 
 -- a list has a cell or not, and a node alike
@@ -72,15 +72,15 @@ contains_cases x y xs (suc k, within, same) = inr (k, omega arith, same)
 walk_rest : (p : InstanceParts) (e : CellId) (s : Step) (steps : List Step) (f : CellId) → IsWalk p e (s ∷ steps) f → IsWalk p s.cell steps f
 walk_rest p e s steps f walk = record {
   leads = walk.leads.1;
-  no_cell_twice = AllPairs-tail ◌≢◌ e (s.cell ∷ cells_of steps) walk.no_cell_twice;
-  no_node_twice = AllPairs-tail ◌≢◌ s.node (nodes_of steps) walk.no_node_twice;
+  no_cell_twice = AllPairs-tail ◌≢◌ e (s.cell ∷ step_cells steps) walk.no_cell_twice;
+  no_node_twice = AllPairs-tail ◌≢◌ s.node (step_nodes steps) walk.no_node_twice;
 }
 
-walk_more : (p : InstanceParts) (e : CellId) (s : Step) (steps : List Step) (f : CellId) → Shares p e s.node s.cell → ¬ Contains (s.cell ∷ cells_of steps) e → ¬ Contains (nodes_of steps) s.node → IsWalk p s.cell steps f → IsWalk p e (s ∷ steps) f
+walk_more : (p : InstanceParts) (e : CellId) (s : Step) (steps : List Step) (f : CellId) → Shares p e s.node s.cell → ¬ Contains (s.cell ∷ step_cells steps) e → ¬ Contains (step_nodes steps) s.node → IsWalk p s.cell steps f → IsWalk p e (s ∷ steps) f
 walk_more p e s steps f shares new_cell new_node walk = record {
   leads = (shares, walk.leads);
-  no_cell_twice = to_fresh e (s.cell ∷ cells_of steps) new_cell walk.no_cell_twice;
-  no_node_twice = to_fresh s.node (nodes_of steps) new_node walk.no_node_twice;
+  no_cell_twice = to_fresh e (s.cell ∷ step_cells steps) new_cell walk.no_cell_twice;
+  no_node_twice = to_fresh s.node (step_nodes steps) new_node walk.no_node_twice;
 }
 
 -- two cells that share a node are of one section
@@ -117,12 +117,12 @@ module _ (p : InstanceParts) (borders : List CandidateId) where
     pub walk : IsWalk p e steps f
     pub free : AreFree steps
 
-  rest_from_cell : (c e f : CellId) (steps : List Step) → IsWalk p c steps f → AreFree steps → Contains (c ∷ cells_of steps) e → Rest c e f steps
+  rest_from_cell : (c e f : CellId) (steps : List Step) → IsWalk p c steps f → AreFree steps → Contains (c ∷ step_cells steps) e → Rest c e f steps
   rest_from_cell c e f [] walk free among = elim (contains_cases c e [] among) [
     | inl same ↦ subst (λ d. Rest c d f []) same (record { steps = []; walk = walk; free = free })
     | inr later ↦ absurd (let low : later.0 < 0 = later.1 in omega arith)
   ]
-  rest_from_cell c e f (s ∷ steps) walk free among = elim (contains_cases c e (s.cell ∷ cells_of steps) among) [
+  rest_from_cell c e f (s ∷ steps) walk free among = elim (contains_cases c e (s.cell ∷ step_cells steps) among) [
     | inl same ↦ subst (λ d. Rest c d f (s ∷ steps)) same (record { steps = s ∷ steps; walk = walk; free = free })
     | inr later ↦
         let rest = rest_from_cell s.cell e f steps (walk_rest p c s steps f walk) (All-tail (λ t. ¬ IsBorder p borders t.node) s steps free) later in
@@ -136,28 +136,28 @@ module _ (p : InstanceParts) (borders : List CandidateId) where
     pub spec : CellSpec
     pub is : slice_get p.cells cell.0 ≡ Some spec
     pub has : IsAtEnd spec n
-    pub fresh : ¬ Contains (nodes_of steps) n
+    pub fresh : ¬ Contains (step_nodes steps) n
     pub walk : IsWalk p cell steps f
     pub free : AreFree steps
     pub same : (k : ℕ) → IsInSection p k from → IsInSection p k cell
-    pub no_new : (d : CellId) → ¬ Contains (from ∷ cells_of old) d → ¬ Contains (cell ∷ cells_of steps) d
+    pub no_new : (d : CellId) → ¬ Contains (from ∷ step_cells old) d → ¬ Contains (cell ∷ step_cells steps) d
 
-  rest_behind : (c : CellId) (n : NodeId) (f : CellId) (steps : List Step) → IsWalk p c steps f → AreFree steps → Contains (nodes_of steps) n → RestBehind c n f steps
+  rest_behind : (c : CellId) (n : NodeId) (f : CellId) (steps : List Step) → IsWalk p c steps f → AreFree steps → Contains (step_nodes steps) n → RestBehind c n f steps
   rest_behind c n f [] walk free among = absurd (let low : among.0 < 0 = among.1 in omega arith)
   rest_behind c n f (s ∷ steps) walk free among =
       let rest_free = All-tail (λ t. ¬ IsBorder p borders t.node) s steps free in
-      elim (contains_cases s.node n (nodes_of steps) among) [
+      elim (contains_cases s.node n (step_nodes steps) among) [
         | inl same ↦ record {
           cell = s.cell;
           steps = steps;
           spec = walk.leads.0.other;
           is = walk.leads.0.is_other;
           has = subst (IsAtEnd walk.leads.0.other) same walk.leads.0.at_other;
-          fresh = subst (λ m. ¬ Contains (nodes_of steps) m) same (fresh_from s.node (nodes_of steps) walk.no_node_twice);
+          fresh = subst (λ m. ¬ Contains (step_nodes steps) m) same (fresh_from s.node (step_nodes steps) walk.no_node_twice);
           walk = walk_rest p c s steps f walk;
           free = rest_free;
           same = λ k here. same_section p c s.node s.cell k walk.leads.0 here;
-          no_new = λ d none. not_later c d (s.cell ∷ cells_of steps) none;
+          no_new = λ d none. not_later c d (s.cell ∷ step_cells steps) none;
         }
         | inr later ↦
             let rest = rest_behind s.cell n f steps (walk_rest p c s steps f walk) rest_free later in
@@ -171,7 +171,7 @@ module _ (p : InstanceParts) (borders : List CandidateId) where
               walk = rest.walk;
               free = rest.free;
               same = λ k here. rest.same k (same_section p c s.node s.cell k walk.leads.0 here);
-              no_new = λ d none. rest.no_new d (not_later c d (s.cell ∷ cells_of steps) none);
+              no_new = λ d none. rest.no_new d (not_later c d (s.cell ∷ step_cells steps) none);
             }
       ]
 
@@ -183,9 +183,9 @@ module _ (p : InstanceParts) (borders : List CandidateId) where
 
   -- one cell before a walk: a walk from that cell
   before_walk : (e : CellId) (n : NodeId) (c f : CellId) → Shares p e n c → ¬ IsBorder p borders n → FreeWalk c f → FreeWalk e f
-  before_walk e n c f shares open_node old = elim (has_cell (c ∷ cells_of old.steps) e) [
+  before_walk e n c f shares open_node old = elim (has_cell (c ∷ step_cells old.steps) e) [
     | inl there ↦ let rest = rest_from_cell c e f old.steps old.walk old.free there in record { steps = rest.steps; walk = rest.walk; free = rest.free }
-    | inr new ↦ elim (has_node (nodes_of old.steps) n) [
+    | inr new ↦ elim (has_node (step_nodes old.steps) n) [
       | inl again ↦
           let rest = rest_behind c n f old.steps old.walk old.free again in
           let k : ℕ = shares.one.section.0 in
@@ -219,7 +219,7 @@ module _ (p : InstanceParts) (borders : List CandidateId) where
   shortens e (c ∷ cells) f (m, led) = before_walk e m.node c f (shares_from_meet e c m) m.free (shortens c cells f led)
 
   -- a walk over no border links
-  links : (e : CellId) (steps : List Step) (f : CellId) → Leads p e steps f → AreFree steps → LeadsTo (Meet p borders) e (cells_of steps) f
+  links : (e : CellId) (steps : List Step) (f : CellId) → Leads p e steps f → AreFree steps → LeadsTo (Meet p borders) e (step_cells steps) f
   links e [] f same free = same
   links e (s ∷ steps) f (shares, led) free = (
     record { one = shares.one; other = shares.other; node = s.node; is_one = shares.is_one; is_other = shares.is_other; one_section = shares.one_section; at_one = shares.at_one; at_other = shares.at_other; free = All-head (λ t. ¬ IsBorder p borders t.node) s steps free },
@@ -243,6 +243,6 @@ module _ (p : InstanceParts) (borders : List CandidateId) where
   pub cut_separates : CutSeparates p borders
   unfolding IsCut Reaches
   cut_separates e f = (
-    λ apart w walk. elim (free_or_cut w) [ inl cut ↦ cut | inr free ↦ absurd (apart (cells_of w, links e w f walk.leads free)) ],
+    λ apart w walk. elim (free_or_cut w) [ inl cut ↦ cut | inr free ↦ absurd (apart (step_cells w, links e w f walk.leads free)) ],
     λ cut linked. let free = shortens e linked.0 f linked.1 in free_not_cut free.steps free.free (cut free.steps free.walk),
   )

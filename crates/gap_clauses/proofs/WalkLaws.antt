@@ -13,7 +13,7 @@ use Rattle.cell_net.specs.Rules.{IsInstance}
 use Rattle.cell_net.specs.declared.ids.CellId.{CellId}
 use Rattle.cell_net.specs.declared.ids.NodeId.{NodeId}
 use Rattle.cell_net.specs.declared.parts.InstanceParts.{InstanceParts}
-use Rattle.gap_clauses.specs.Walks.{Step, nodes_of, cells_of, Shares, Leads, IsWalkFrom, end_of, node_numbers}
+use Rattle.gap_clauses.specs.Walks.{Step, step_nodes, step_cells, Shares, Leads, IsWalkFrom, end_of, node_numbers}
 use Rattle.gap_clauses.specs.Fans.{has_node, has_cell, visits}
 use Rattle.gap_clauses.specs.Views.{cell_of}
 use Rattle.gap_clauses.proofs.ListLemmas.{in_tail, no_more_than, AllPairs-begin, not_before}
@@ -50,7 +50,7 @@ same_place (x ∷ xs) zero d within = refl
 same_place (x ∷ xs) (suc k) d within = same_place xs k d (omega arith)
 
 -- the tests of nodes and cells
-pub no_such_node : (n : NodeId) (w : List Step) → has_node n w ≡ false → ¬ Contains (nodes_of w) n
+pub no_such_node : (n : NodeId) (w : List Step) → has_node n w ≡ false → ¬ Contains (step_nodes w) n
 unfolding has_node
 no_such_node n w none there =
     let d : Step = step_to n (record { 0 = 0 }) in
@@ -58,7 +58,7 @@ no_such_node n w none there =
     let at : (get_or w there.0 d).node ≡ n = sym (get_or-map (λ (s : Step). s.node) w there.0 d n within) ∙ there.2 in
     false≢true (sym none ∙ list_any-from_Any (λ (s : Step). nat_eq s.node.0 n.0) w (there.0, get_or w there.0 d, within, same_place w there.0 d within, eq-eqb _ _ (ap (λ (m : NodeId). m.0) at)))
 
-pub no_node_so : (n : NodeId) (w : List Step) → ¬ Contains (nodes_of w) n → has_node n w ≡ false
+pub no_node_so : (n : NodeId) (w : List Step) → ¬ Contains (step_nodes w) n → has_node n w ≡ false
 unfolding has_node
 no_node_so n w none = elim (cases_Bool (list_any (λ (s : Step). nat_eq s.node.0 n.0) w)) [
   | inl has ↦
@@ -68,7 +68,7 @@ no_node_so n w none = elim (cases_Bool (list_any (λ (s : Step). nat_eq s.node.0
   | inr never ↦ never
 ]
 
-no_such_cell : (c : CellId) (w : List Step) → has_cell c w ≡ false → ¬ Contains (cells_of w) c
+no_such_cell : (c : CellId) (w : List Step) → has_cell c w ≡ false → ¬ Contains (step_cells w) c
 unfolding has_cell
 no_such_cell c w none there =
     let d : Step = step_to (record { 0 = 0 }) c in
@@ -76,7 +76,7 @@ no_such_cell c w none there =
     let at : (get_or w there.0 d).cell ≡ c = sym (get_or-map (λ (s : Step). s.cell) w there.0 d c within) ∙ there.2 in
     false≢true (sym none ∙ list_any-from_Any (λ (s : Step). nat_eq s.cell.0 c.0) w (there.0, get_or w there.0 d, within, same_place w there.0 d within, eq-eqb _ _ (ap (λ (m : CellId). m.0) at)))
 
-no_cell_so : (c : CellId) (w : List Step) → ¬ Contains (cells_of w) c → has_cell c w ≡ false
+no_cell_so : (c : CellId) (w : List Step) → ¬ Contains (step_cells w) c → has_cell c w ≡ false
 unfolding has_cell
 no_cell_so c w none = elim (cases_Bool (list_any (λ (s : Step). nat_eq s.cell.0 c.0) w)) [
   | inl has ↦
@@ -90,16 +90,16 @@ or_false : (a b : Bool) → (a || b) ≡ false → (a ≡ false) × (b ≡ false
 or_false true b h = absurd (false≢true (sym h))
 or_false false b h = (refl, h)
 
-pub no_visit : (e c : CellId) (w : List Step) → visits e c w ≡ false → ¬ Contains (e ∷ cells_of w) c
+pub no_visit : (e c : CellId) (w : List Step) → visits e c w ≡ false → ¬ Contains (e ∷ step_cells w) c
 unfolding visits
 no_visit e c w none (zero, within, same) = false≢true (sym (or_false _ _ none).0 ∙ eq-eqb e.0 c.0 (ap (λ (d : CellId). d.0) same))
 no_visit e c w none (suc k, within, same) = no_such_cell c w (or_false _ _ none).1 (k, omega arith, same)
 
-pub no_visit_so : (e c : CellId) (w : List Step) → ¬ Contains (e ∷ cells_of w) c → visits e c w ≡ false
+pub no_visit_so : (e c : CellId) (w : List Step) → ¬ Contains (e ∷ step_cells w) c → visits e c w ≡ false
 unfolding visits
 no_visit_so e c w none = elim (cases_Bool (nat_eq e.0 c.0)) [
   | inl same ↦ absurd (none (0, omega arith, same_cell e c (eqb-true _ _ same)))
-  | inr other ↦ rw other (no_cell_so c w (λ there. none (in_tail e (cells_of w) c there)))
+  | inr other ↦ rw other (no_cell_so c w (λ there. none (in_tail e (step_cells w) c there)))
 ]
 
 -- a walk one step longer
@@ -107,9 +107,9 @@ pub walk_push : (p : InstanceParts) (e : CellId) (w : List Step) (n : NodeId) (c
 walk_push p e w n c walk shares new_node new_cell = record {
   leads = subst (Leads p e (w ++ step_to n c ∷ [])) (sym (end_of_push e w (step_to n c))) (leads_push p e w (step_to n c) walk.leads shares);
   no_cell_twice = subst (λ cs. AllPairs ◌≢◌ (e ∷ cs)) (sym (map_push (λ (s : Step). s.cell) w (step_to n c)))
-      (all_pairs_push ◌≢◌ (e ∷ cells_of w) c walk.no_cell_twice (λ k d h same. no_visit e c w new_cell (k, h, subst (λ d. get_or (e ∷ cells_of w) k d ≡ c) same (same_place (e ∷ cells_of w) k d h ∙ same))));
+      (all_pairs_push ◌≢◌ (e ∷ step_cells w) c walk.no_cell_twice (λ k d h same. no_visit e c w new_cell (k, h, subst (λ d. get_or (e ∷ step_cells w) k d ≡ c) same (same_place (e ∷ step_cells w) k d h ∙ same))));
   no_node_twice = subst (AllPairs ◌≢◌) (sym (map_push (λ (s : Step). s.node) w (step_to n c)))
-      (all_pairs_push ◌≢◌ (nodes_of w) n walk.no_node_twice (λ k d h same. no_such_node n w new_node (k, h, subst (λ d. get_or (nodes_of w) k d ≡ n) same (same_place (nodes_of w) k d h ∙ same))));
+      (all_pairs_push ◌≢◌ (step_nodes w) n walk.no_node_twice (λ k d h same. no_such_node n w new_node (k, h, subst (λ d. get_or (step_nodes w) k d ≡ n) same (same_place (step_nodes w) k d h ∙ same))));
 }
 
 -- a walk up to one of its steps
@@ -121,18 +121,18 @@ pub record IsSplit (p : InstanceParts) (e : CellId) (w : List Step) (s : Step) :
 
 pub walk_split : (p : InstanceParts) (e : CellId) (w : List Step) (s : Step) (rest : List Step) → IsWalkFrom p e (w ++ s ∷ rest) → IsSplit p e w s
 walk_split p e w s rest walk =
-    let cells : AllPairs ◌≢◌ ((e ∷ cells_of w) ++ s.cell ∷ cells_of rest) = subst (λ cs. AllPairs ◌≢◌ (e ∷ cs)) (map-append (λ (s : Step). s.cell) w (s ∷ rest)) walk.no_cell_twice in
-    let nodes : AllPairs ◌≢◌ (nodes_of w ++ s.node ∷ nodes_of rest) = subst (AllPairs ◌≢◌) (map-append (λ (s : Step). s.node) w (s ∷ rest)) walk.no_node_twice in
+    let cells : AllPairs ◌≢◌ ((e ∷ step_cells w) ++ s.cell ∷ step_cells rest) = subst (λ cs. AllPairs ◌≢◌ (e ∷ cs)) (map-append (λ (s : Step). s.cell) w (s ∷ rest)) walk.no_cell_twice in
+    let nodes : AllPairs ◌≢◌ (step_nodes w ++ s.node ∷ step_nodes rest) = subst (AllPairs ◌≢◌) (map-append (λ (s : Step). s.node) w (s ∷ rest)) walk.no_node_twice in
     let led = leads_split p e w s rest (end_of e (w ++ s ∷ rest)) walk.leads in
     record {
       begin = record {
         leads = led.0;
-        no_cell_twice = AllPairs-begin ◌≢◌ (e ∷ cells_of w) (s.cell ∷ cells_of rest) cells;
-        no_node_twice = AllPairs-begin ◌≢◌ (nodes_of w) (s.node ∷ nodes_of rest) nodes;
+        no_cell_twice = AllPairs-begin ◌≢◌ (e ∷ step_cells w) (s.cell ∷ step_cells rest) cells;
+        no_node_twice = AllPairs-begin ◌≢◌ (step_nodes w) (s.node ∷ step_nodes rest) nodes;
       };
       shares = led.1;
-      new_node = no_node_so s.node w (not_before (nodes_of w) s.node (nodes_of rest) nodes);
-      new_cell = no_visit_so e s.cell w (not_before (e ∷ cells_of w) s.cell (cells_of rest) cells);
+      new_node = no_node_so s.node w (not_before (step_nodes w) s.node (step_nodes rest) nodes);
+      new_cell = no_visit_so e s.cell w (not_before (e ∷ step_cells w) s.cell (step_cells rest) cells);
     }
 
 -- the steps of a walk whose nodes are split
@@ -183,7 +183,7 @@ shares_node p e n f rules shares =
       | inr high ↦ subst (λ (m : NodeId). m.0 < p.nodes) high good.high
     ]
 
-cells_led : (p : InstanceParts) (e : CellId) (w : List Step) (f c : CellId) → IsCell p e → Leads p e w f → Contains (e ∷ cells_of w) c → IsCell p c
+cells_led : (p : InstanceParts) (e : CellId) (w : List Step) (f c : CellId) → IsCell p e → Leads p e w f → Contains (e ∷ step_cells w) c → IsCell p c
 cells_led p e w f c here led (zero, within, same) = subst (IsCell p) same here
 cells_led p e [] f c here led (suc k, within, same) = absurd (omega arith)
 cells_led p e (s ∷ w) f c here led (suc k, within, same) = cells_led p s.cell w f c (shares_cell p e s.node s.cell led.0) led.1 (k, omega arith, same)
@@ -197,7 +197,7 @@ pub walk_is_short : (p : InstanceParts) (e : CellId) (w : List Step) → IsCell 
 walk_is_short p e w here walk =
     let all : List CellId = map cell_of (range_with_len 0 (length p.cells)) in
     let size : length all ≡ length p.cells = length-map-range_with_len cell_of 0 (length p.cells) in
-    let fits : length (e ∷ cells_of w) ≤ length all = no_more_than (e ∷ cells_of w) all walk.no_cell_twice (λ c there.
+    let fits : length (e ∷ step_cells w) ≤ length all = no_more_than (e ∷ step_cells w) all walk.no_cell_twice (λ c there.
     let cell : c.0 < length p.cells = cells_led p e w (end_of e w) c here walk.leads there in
     (c.0, omega arith, get_or-map-range_with_len cell_of 0 (length p.cells) c.0 c.0 c cell (let e : 0 + c.0 ≡ c.0 = omega arith in e))) in
     omega (arith, fits, size, length-map w (λ (s : Step). s.cell))

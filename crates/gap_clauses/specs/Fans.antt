@@ -8,7 +8,7 @@ use Rattle.cell_net.specs.declared.ids.CellId.{CellId}
 use Rattle.cell_net.specs.declared.ids.NodeId.{NodeId}
 use Rattle.cell_net.specs.declared.cells.CellSpec.{CellSpec}
 use Rattle.cell_net.specs.declared.parts.InstanceParts.{InstanceParts}
-use Rattle.gap_clauses.specs.Walks.{Step, end_of, IsWalkFrom, IsBefore, Shares, IsLess, node_numbers}
+use Rattle.gap_clauses.specs.Walks.{Step, end_of, IsWalkFrom, IsWalkBefore, Shares, IsLess, node_numbers}
 use Rattle.gap_clauses.specs.Crowds.{IsCrowdedFrom}
 use Rattle.gap_clauses.specs.declared.fan.Stop.{Stop}
 use Rattle.gap_clauses.specs.declared.fan.Stop.TheVariants.{TooMany, Memory}
@@ -100,7 +100,7 @@ all_over p rows first n walks = flat_map (over p rows first n) walks
 -- the walks from e that are so are these, in order
 pub record AreListed (p : InstanceParts) (e : CellId) (P : List Step → Type 0) (walks : List (List Step)) : Type 0 where
   pub each : (w : List Step) → Contains walks w ↔ (IsWalkFrom p e w × P w)
-  pub in_order : AllPairs IsBefore walks
+  pub in_order : AllPairs IsWalkBefore walks
 
 -- over exactly these nodes
 unfoldable pub IsOverNodes : List ℕ → List Step → Type 0
@@ -111,12 +111,12 @@ unfoldable pub IsUpTo : List ℕ → List Step → Type 0
 IsUpTo nodes walk = IsLess (node_numbers walk) nodes ⊎ (node_numbers walk ≡ nodes)
 
 -- over these nodes, and further over a node below this number
-unfoldable pub GoesOn : List ℕ → ℕ → List Step → Type 0
-GoesOn nodes below walk = (n : ℕ) × (rest : List ℕ) × (node_numbers walk ≡ nodes ++ n ∷ rest) × (n < below)
+unfoldable pub GoesOnOver : List ℕ → ℕ → List Step → Type 0
+GoesOnOver nodes below walk = (n : ℕ) × (rest : List ℕ) × (node_numbers walk ≡ nodes ++ n ∷ rest) × (n < below)
 
 -- up to these nodes, or further over a node below this number
 unfoldable pub IsDone : List ℕ → ℕ → List Step → Type 0
-IsDone nodes below walk = IsUpTo nodes walk ⊎ GoesOn nodes below walk
+IsDone nodes below walk = IsUpTo nodes walk ⊎ GoesOnOver nodes below walk
 
 -- the numbers of the nodes of the walk at that place
 abbrev pub nodes_at : List (List Step) → ℕ → List ℕ
@@ -147,7 +147,7 @@ abbrev pub LeadToCells : InstanceParts → CellId → List (List Step) → Type 
 LeadToCells p first walks = All (λ w. IsCell p (end_of first w)) walks
 
 -- what a search goes on from: an instance, its rows, walks from one of its cells, and a group of them
-pub record IsReady (p : InstanceParts) (rows : List (List CellId)) (fan : FanParts) (from : ℕ) : Type 0 where
+pub record IsSearchState (p : InstanceParts) (rows : List (List CellId)) (fan : FanParts) (from : ℕ) : Type 0 where
   pub rules : IsInstance p
   pub are_rows : AreRows p rows
   pub first : IsCell p fan.first

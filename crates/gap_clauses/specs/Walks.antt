@@ -12,11 +12,11 @@ pub record Step : Type 0 where
   pub cell : CellId
 
 -- the nodes and the cells of steps
-abbrev pub nodes_of : List Step → List NodeId
-nodes_of steps = map (λ s. s.node) steps
+abbrev pub step_nodes : List Step → List NodeId
+step_nodes steps = map (λ s. s.node) steps
 
-abbrev pub cells_of : List Step → List CellId
-cells_of steps = map (λ s. s.cell) steps
+abbrev pub step_cells : List Step → List CellId
+step_cells steps = map (λ s. s.cell) steps
 
 -- both cells are of one section and have the node at an end
 pub record Shares (p : InstanceParts) (e : CellId) (n : NodeId) (f : CellId) : Type 0 where
@@ -41,8 +41,8 @@ end_of e (s ∷ steps) = end_of s.cell steps
 -- the steps walk from e to f: they lead there, with no cell twice and no node twice
 pub record IsWalk (p : InstanceParts) (e : CellId) (steps : List Step) (f : CellId) : Type 0 where
   pub leads : Leads p e steps f
-  pub no_cell_twice : AllPairs ◌≢◌ (e ∷ cells_of steps)
-  pub no_node_twice : AllPairs ◌≢◌ (nodes_of steps)
+  pub no_cell_twice : AllPairs ◌≢◌ (e ∷ step_cells steps)
+  pub no_node_twice : AllPairs ◌≢◌ (step_nodes steps)
 
 -- the steps walk from e to some cell
 abbrev pub IsWalkFrom : InstanceParts → CellId → List Step → Type 0
@@ -63,11 +63,11 @@ abbrev pub cell_numbers : List Step → List ℕ
 cell_numbers steps = map (λ s. s.cell.0) steps
 
 -- the order of walks: by their whole lists of nodes, then by their lists of cells
-unfoldable pub IsBefore : List Step → List Step → Type 0
-IsBefore one other = IsLess (node_numbers one) (node_numbers other) ⊎
+unfoldable pub IsWalkBefore : List Step → List Step → Type 0
+IsWalkBefore one other = IsLess (node_numbers one) (node_numbers other) ⊎
     ((node_numbers one ≡ node_numbers other) × IsLess (cell_numbers one) (cell_numbers other))
 
 -- the list holds each walk from e to f once, and nothing else, in order
 pub record AreWalks (p : InstanceParts) (e f : CellId) (walks : List (List Step)) : Type 0 where
   pub each : (w : List Step) → Contains walks w ↔ IsWalk p e w f
-  pub in_order : AllPairs IsBefore walks
+  pub in_order : AllPairs IsWalkBefore walks

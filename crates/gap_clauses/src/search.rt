@@ -5,7 +5,7 @@ ghost use Rattle.std.specs.List.{flat_map};
 ghost use Rattle.cell_net.specs.Rules.{IsInstance};
 ghost use Rattle.cell_net.specs.Space.{IsCell};
 ghost use Rattle.cell_net.specs.declared.ids.NodeId.{NodeId};
-ghost use Rattle.gap_clauses.specs.Fans.{AreListed, AreRows, GoesOverNext, IsDone, IsFanOf, IsNotBelow, IsReady, IsSearchStop, IsSkipped, IsStop, LeadToCells, all_over, behind, longer, nodes_at, over, walk_at};
+ghost use Rattle.gap_clauses.specs.Fans.{AreListed, AreRows, GoesOverNext, IsDone, IsFanOf, IsNotBelow, IsSearchState, IsSearchStop, IsSkipped, IsStop, LeadToCells, all_over, behind, longer, nodes_at, over, walk_at};
 ghost use Rattle.gap_clauses.specs.Walks.{end_of};
 
 use crate::fan::{Fan, Stop};
@@ -45,7 +45,7 @@ pub(crate) fn fan_of(alloc: Global, search: &Search, cell: CellId) -> Result<Fan
 /// Appends, in order, all walks that go on from the group of walks over the same nodes that stand from
 /// that place on.
 fn visit(search: &Search, from: usize, fan: &mut Fan) -> Result<(), Stop>
-    requires { IsReady search.now.inst.now search.now.neighbours.now fan.old from }
+    requires { IsSearchState search.now.inst.now search.now.neighbours.now fan.old from }
     ensures first { fan.new.first ≡ fan.old.first }
     ensures cells { fan.new.cells ≡ fan.old.cells }
     ensures keeps { OnOk result (take (length fan.old.walks) fan.new.walks ≡ fan.old.walks) }

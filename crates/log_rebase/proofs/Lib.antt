@@ -1,6 +1,5 @@
 -- The lemmas and laws of `log_rebase`, each file a subject.
 mod Carried
-mod Chain
 mod DeriveLemmas
 mod Numbering
 mod PlaceLemmas

@@ -4,7 +4,7 @@ use Rattle.std.proofs.lemmas.List.Elements.{Contains-get_or}
 use Rattle.cell_net.specs.declared.cells.DirCell.{DirCell}
 use Rattle.cell_net.specs.declared.trains.TrainSpec.{TrainSpec}
 use Rattle.cell_net.specs.declared.parts.InstanceParts.{InstanceParts}
-use Rattle.sweep_table.specs.Order.{IsBefore}
+use Rattle.sweep_table.specs.Order.{IsSweepBefore}
 use Rattle.sweep_table.specs.Growing.{AreAfter, IsGrowthFault, sweeps_below}
 use Rattle.sweep_table.specs.Parts.{IsOfTrain}
 use Rattle.sweep_table.specs.Sweeps.{AreSweepsOf, IsTableRefusal}
@@ -30,7 +30,7 @@ too_many p t after advances TooManySweeps of all count many =
     record {
       some = sweeps;
       are_sweeps = λ k d h. (are.each (get_or sweeps k d)).0 (Contains-get_or sweeps k d h);
-      differ = λ i j d low high same. not_before_itself (get_or sweeps j d) (subst (λ w. IsBefore w (get_or sweeps j d)) same (are.in_order i j d low high));
+      differ = λ i j d low high same. not_before_itself (get_or sweeps j d) (subst (λ w. IsSweepBefore w (get_or sweeps j d)) same (are.in_order i j d low high));
       many = omega arith;
     }
 too_many p t after advances Memory of all count many = tt

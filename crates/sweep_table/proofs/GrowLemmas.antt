@@ -16,7 +16,7 @@ use Rattle.cell_net.specs.declared.cells.DirCell.{DirCell}
 use Rattle.cell_net.specs.declared.parts.InstanceParts.{InstanceParts}
 use Rattle.sweep_table.specs.declared.refusal.TableRefusal.{TableRefusal}
 use Rattle.sweep_table.specs.declared.refusal.TableRefusal.TheVariants.{TooManySweeps, Memory}
-use Rattle.sweep_table.specs.Order.{number_of, end_number}
+use Rattle.sweep_table.specs.Order.{directed_number, end_digit}
 use Rattle.sweep_table.specs.Growing.{AreAfter, IsGrowthFault, all_grown, grown_by_advance, sweeps_below, branch, grown, may_go_on, after_of, both_ways, directed, lowward, highward}
 
 -- numbers from 0 on, one more
@@ -84,18 +84,18 @@ pub fault_same : (old more other : List (List DirCell)) (refusal : TableRefusal)
 fault_same old more other refusal same fault = subst (λ ws. IsGrowthFault old ws refusal) (sym same) fault
 
 -- numbers of the instance's directed cells
-number_low : (e : End) (c n : ℕ) → c < n → 2 * c + end_number e < 2 * n
+pub number_low : (e : End) (c n : ℕ) → c < n → 2 * c + end_digit e < 2 * n
 number_low Low c n h = omega arith
 number_low High c n h = omega arith
 
-cell_low : (e : End) (c n : ℕ) → 2 * c + end_number e < 2 * n → c < n
+cell_low : (e : End) (c n : ℕ) → 2 * c + end_digit e < 2 * n → c < n
 cell_low Low c n h = omega arith
 cell_low High c n h = omega arith
 
-pub number_within : (p : InstanceParts) (d : DirCell) → IsCell p d.cell → number_of d < 2 * length p.cells
+pub number_within : (p : InstanceParts) (d : DirCell) → IsCell p d.cell → directed_number d < 2 * length p.cells
 number_within p d h = number_low d.end d.cell.0 (length p.cells) h
 
-pub cell_within : (p : InstanceParts) (d : DirCell) → number_of d < 2 * length p.cells → IsCell p d.cell
+pub cell_within : (p : InstanceParts) (d : DirCell) → directed_number d < 2 * length p.cells → IsCell p d.cell
 cell_within p d h = cell_low d.end d.cell.0 (length p.cells) h
 
 -- the path without the directed cell that it went on with
@@ -106,16 +106,16 @@ path_back path longer shorter d n is back len =
 
 -- what follows lies among the instance's cells
 pub row_of_cells : (p : InstanceParts) (after : List (List DirCell)) (d : DirCell) (row : List DirCell) → AreAfter p after → IsCell p d.cell →
-    ((e : List DirCell) → get_or after (number_of d) e ≡ row) → All (λ e. IsCell p e.cell) row
+    ((e : List DirCell) → get_or after (directed_number d) e ≡ row) → All (λ e. IsCell p e.cell) row
 row_of_cells p after d row all here is =
     let each = all.each d (number_within p d here) in
-    let all_cells : All (λ e. IsCell p e.cell) (after_of after d) = All-weaker (λ e. (number_of e < 2 * length p.cells) × Follows p d e) (λ e. IsCell p e.cell) (λ e both. cell_within p e both.0) (after_of after d)
+    let all_cells : All (λ e. IsCell p e.cell) (after_of after d) = All-weaker (λ e. (directed_number e < 2 * length p.cells) × Follows p d e) (λ e. IsCell p e.cell) (λ e both. cell_within p e both.0) (after_of after d)
     (λ k e h. (each.follow (get_or (after_of after d) k e)).0 (Contains-get_or (after_of after d) k e h)) in
     All-same (λ e. IsCell p e.cell) row (after_of after d) (sym (is [])) all_cells
 
 -- the branch of a directed cell is what grew over it, from what follows it and from the path with it
 pub branch_is : (p : InstanceParts) (train : ℕ) (after : List (List DirCell)) (count more : ℕ) (path before longer row : List DirCell) (d : DirCell) →
-    may_go_on p train count before d ≡ true → before ≡ path → longer ≡ before ++ d ∷ [] → ((e : List DirCell) → get_or after (number_of d) e ≡ row) →
+    may_go_on p train count before d ≡ true → before ≡ path → longer ≡ before ++ d ∷ [] → ((e : List DirCell) → get_or after (directed_number d) e ≡ row) →
     branch p train after count (grown p train after count more) path d ≡ grown p train after count more row longer
 branch_is p train after count more path before longer row d may same is row_is =
     let may_here : may_go_on p train count path d ≡ true = subst (λ ds. may_go_on p train count ds d ≡ true) same may in

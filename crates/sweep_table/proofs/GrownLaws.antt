@@ -15,8 +15,8 @@ use Rattle.cell_net.specs.declared.cells.DirCell.{DirCell}
 use Rattle.cell_net.specs.declared.ids.CellId.{CellId}
 use Rattle.cell_net.specs.declared.trains.TrainSpec.{TrainSpec}
 use Rattle.cell_net.specs.declared.parts.InstanceParts.{InstanceParts}
-use Rattle.sweep_table.specs.Order.{number_of, IsLower}
-use Rattle.sweep_table.specs.Growing.{AreAfter, after_of, branch, grown, limit_of, limit_in, lowward, has_cell, may_go_on}
+use Rattle.sweep_table.specs.Order.{directed_number, IsLower}
+use Rattle.sweep_table.specs.Growing.{AreAfter, after_of, branch, grown, cell_limit, limit_in, lowward, path_has_cell, may_go_on}
 use Rattle.sweep_table.proofs.GrowLemmas.{branch_yes, branch_no, number_within, cell_within}
 
 -- the last of a list
@@ -33,42 +33,42 @@ pub record IsPart (p : InstanceParts) (t : TrainSpec) (count : ℕ) (path : List
 -- the next ones are those that may come behind the path
 pub record AreNext (p : InstanceParts) (path next : List DirCell) : Type 0 where
   pub which : (e : DirCell) → Contains next e ↔ (IsCell p e.cell × (0 < length path → Follows p (last_of path) e))
-  pub rising : AllPairs (λ e f. number_of e < number_of f) next
+  pub rising : AllPairs (λ e f. directed_number e < directed_number f) next
 
 same_cell : (c d : DirCell) → c.cell.0 ≡ d.cell.0 → c.cell ≡ d.cell
 same_cell c d h = λ i. record { 0 = h i }
 
 -- the path doesn't have the cell
-fresh_from : (path : List DirCell) (d : DirCell) → has_cell path d ≡ false → (k : ℕ) (e : DirCell) → k < length path → (get_or path k e).cell ≢ d.cell
+fresh_from : (path : List DirCell) (d : DirCell) → path_has_cell path d ≡ false → (k : ℕ) (e : DirCell) → k < length path → (get_or path k e).cell ≢ d.cell
 fresh_from path d none k e within same =
     false≢true (sym none ∙ list_any-from_Any (λ (c : DirCell). nat_eq c.cell.0 d.cell.0) path (k, get_or path k e, within, get_or_default path k (get_or path k e) e within, eq-eqb _ _ (ap (λ (c : CellId). c.0) same)))
 
-to_fresh : (path : List DirCell) (d : DirCell) → ((k : ℕ) (e : DirCell) → k < length path → (get_or path k e).cell ≢ d.cell) → has_cell path d ≡ false
-to_fresh path d fresh = elim (cases_Bool (has_cell path d)) [
+to_fresh : (path : List DirCell) (d : DirCell) → ((k : ℕ) (e : DirCell) → k < length path → (get_or path k e).cell ≢ d.cell) → path_has_cell path d ≡ false
+to_fresh path d fresh = elim (cases_Bool (path_has_cell path d)) [
   | inl has ↦ let found = Any-from_list_any (λ (c : DirCell). nat_eq c.cell.0 d.cell.0) path has in
       absurd (fresh found.0 found.1 found.2 (ap (λ (c : DirCell). c.cell) found.3 ∙ same_cell found.1 d (eqb-true _ _ found.4)))
   | inr none ↦ none
 ]
 
 -- within the limit, by the number
-within_from : (p : InstanceParts) (t : TrainSpec) (count : ℕ) (d : DirCell) → count ≤ t.length + limit_of p d → IsWithinLimit p t count d
-within_from p t count d h cell is = let same : limit_of p d ≡ cell.limit = ap limit_in is in omega arith
+within_from : (p : InstanceParts) (t : TrainSpec) (count : ℕ) (d : DirCell) → count ≤ t.length + cell_limit p d → IsWithinLimit p t count d
+within_from p t count d h cell is = let same : cell_limit p d ≡ cell.limit = ap limit_in is in omega arith
 
-to_within : (p : InstanceParts) (t : TrainSpec) (count : ℕ) (d : DirCell) → IsCell p d.cell → IsWithinLimit p t count d → count ≤ t.length + limit_of p d
+to_within : (p : InstanceParts) (t : TrainSpec) (count : ℕ) (d : DirCell) → IsCell p d.cell → IsWithinLimit p t count d → count ≤ t.length + cell_limit p d
 to_within p t count d here within = elim (slice_get_cases p.cells d.cell.0).1 [
-  | inl (cell, inside, is, at) ↦ let same : limit_of p d ≡ cell.limit = ap limit_in is in let low : count ≤ t.length + cell.limit = within cell is in omega arith
+  | inl (cell, inside, is, at) ↦ let same : cell_limit p d ≡ cell.limit = ap limit_in is in let low : count ≤ t.length + cell.limit = within cell is in omega arith
   | inr past ↦ absurd (omega arith)
 ]
 
 -- a path that may go on with a directed cell
 may_from : (p : InstanceParts) (t : TrainSpec) (count : ℕ) (path : List DirCell) (d : DirCell) → may_go_on p t.length count path d ≡ true →
-    (has_cell path d ≡ false) × IsWithinLimit p t count d
+    (path_has_cell path d ≡ false) × IsWithinLimit p t count d
 unfolding may_go_on
 may_from p t count path d may =
-    let both = and_parts (not (has_cell path d)) (nat_le count (t.length + limit_of p d)) may in
+    let both = and_parts (not (path_has_cell path d)) (nat_le count (t.length + cell_limit p d)) may in
     (not-true _ both.0, within_from p t count d (leb-true _ _ both.1))
 
-to_may : (p : InstanceParts) (t : TrainSpec) (count : ℕ) (path : List DirCell) (d : DirCell) → IsCell p d.cell → has_cell path d ≡ false → IsWithinLimit p t count d →
+to_may : (p : InstanceParts) (t : TrainSpec) (count : ℕ) (path : List DirCell) (d : DirCell) → IsCell p d.cell → path_has_cell path d ≡ false → IsWithinLimit p t count d →
     may_go_on p t.length count path d ≡ true
 unfolding may_go_on
 to_may p t count path d here fresh within = and_from _ _ (not_from_false _ fresh) (le-leb _ _ (to_within p t count d here within))
@@ -160,7 +160,7 @@ grown_is_part p t after count (suc more) next path u all part are_next there =
 
 -- the part of a path up to some place
 part_take : (p : InstanceParts) (t : TrainSpec) (count : ℕ) (u : List DirCell) (n : ℕ) → IsPart p t count u → n < length u → (d : DirCell) → d ≡ get_or u n (lowward 0) →
-    (IsCell p d.cell) × (0 < n → Follows p (last_of (take n u)) d) × (has_cell (take n u) d ≡ false) × IsWithinLimit p t count d
+    (IsCell p d.cell) × (0 < n → Follows p (last_of (take n u)) d) × (path_has_cell (take n u) d ≡ false) × IsWithinLimit p t count d
 part_take p t count u n part within d is =
     let size : length (take n u) ≡ n = length-take-le n u (omega arith) in
     let same : get_or u n d ≡ d = get_or_default u n d (lowward 0) within ∙ sym is in (
@@ -189,7 +189,7 @@ grows p t after count (suc more) next path u all are_next here begins =
     let longer : take (length (path ++ d ∷ [])) u ≡ path ++ d ∷ [] =
     ap (λ m. take m u) (length_push path d) ∙ (take_more u n (lowward 0) within ∙ ap (λ ds. ds ++ d ∷ []) begins) in
     let follows : 0 < length path → Follows p (last_of path) d = λ some. subst (λ ds. Follows p (last_of ds) d) begins (taken.1 some) in
-    let fresh : has_cell path d ≡ false = subst (λ ds. has_cell ds d ≡ false) begins taken.2 in
+    let fresh : path_has_cell path d ≡ false = subst (λ ds. path_has_cell ds d ≡ false) begins taken.2 in
     let may = to_may p t count path d taken.0 fresh taken.3 in
     let deeper = grows p t after count more (after_of after d) (path ++ d ∷ []) u all (next_push p after path d all taken.0)
     (record { part = here.part; size_is = omega (arith, here.size_is, length_push path d) }) longer in
@@ -208,7 +208,7 @@ item path u d begins =
     slice_get-get_or u (length path) d long ∙ ap Some at
 
 -- paths that go on with directed cells of different numbers
-lower_at : (path u v : List DirCell) (d e : DirCell) → take (length (path ++ d ∷ [])) u ≡ path ++ d ∷ [] → take (length (path ++ e ∷ [])) v ≡ path ++ e ∷ [] → number_of d < number_of e → IsLower u v
+lower_at : (path u v : List DirCell) (d e : DirCell) → take (length (path ++ d ∷ [])) u ≡ path ++ d ∷ [] → take (length (path ++ e ∷ [])) v ≡ path ++ e ∷ [] → directed_number d < directed_number e → IsLower u v
 lower_at path u v d e begins_u begins_v lower = record {
   place = length path;
   alike = front path u d begins_u ∙ sym (front path v e begins_v);
@@ -232,7 +232,7 @@ pub grown_rise : (p : InstanceParts) (t : TrainSpec) (after : List (List DirCell
 unfolding grown
 grown_rise p t after count zero next path all are_next = λ i j d low high. absurd (omega arith)
 grown_rise p t after count (suc more) next path all are_next =
-    AllPairs-flat_map (λ d e. number_of d < number_of e) IsLower (branch p t.length after count (grown p t.length after count more) path) next are_next.rising
+    AllPairs-flat_map (λ d e. directed_number d < directed_number e) IsLower (branch p t.length after count (grown p t.length after count more) path) next are_next.rising
     (λ d at_d. let which = (are_next.which d).0 at_d in
     elim (cases_Bool (may_go_on p t.length count path d)) [
       | inl may ↦ subst (AllPairs IsLower) (sym (branch_yes p t.length after count (grown p t.length after count more) path d may)) (grown_rise p t after count more (after_of after d) (path ++ d ∷ []) all (next_push p after path d all which.0))

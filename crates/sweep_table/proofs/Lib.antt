@@ -1,6 +1,8 @@
 -- The lemmas and laws of `sweep_table`, each file a subject.
-mod FollowLemmas
+mod DirectedLaws
 mod GrowLemmas
+mod ReachLemmas
+mod SuccessionLemmas
 mod GrownLaws
 mod SweepLaws
 mod GroupLemmas

@@ -11,7 +11,7 @@ use Rattle.cell_net.specs.declared.cells.End.TheVariants.{Low, High}
 use Rattle.cell_net.specs.declared.cells.DirCell.{DirCell}
 use Rattle.cell_net.specs.declared.trains.TrainSpec.{TrainSpec}
 use Rattle.cell_net.specs.declared.parts.InstanceParts.{InstanceParts}
-use Rattle.sweep_table.specs.Order.{number_of, end_number, IsLower, IsBefore}
+use Rattle.sweep_table.specs.Order.{directed_number, end_digit, IsLower, IsSweepBefore}
 use Rattle.sweep_table.specs.Growing.{AreAfter, both_ways, directed, grown_by_advance, sweeps_below}
 use Rattle.sweep_table.proofs.GrownLaws.{IsPart, IsGrown, AreNext, grown_is_part, grows, grown_rise}
 
@@ -39,7 +39,7 @@ unfolding both_ways
 both_has c Low = (0, omega arith, refl)
 both_has c High = (1, omega arith, refl)
 
-both_rise : (c : ℕ) → AllPairs (λ e f. number_of e < number_of f) (both_ways c)
+both_rise : (c : ℕ) → AllPairs (λ e f. directed_number e < directed_number f) (both_ways c)
 unfolding both_ways
 both_rise c zero zero d low high = absurd (omega arith)
 both_rise c zero (suc zero) d low high = omega arith
@@ -48,7 +48,7 @@ both_rise c (suc i) zero d low high = absurd (omega arith)
 both_rise c (suc i) (suc zero) d low high = absurd (omega arith)
 both_rise c (suc i) (suc (suc j)) d low high = absurd (omega arith)
 
-numbers_apart : (e f : End) (c d : ℕ) → c < d → 2 * c + end_number e < 2 * d + end_number f
+numbers_apart : (e f : End) (c d : ℕ) → c < d → 2 * c + end_digit e < 2 * d + end_digit f
 numbers_apart Low Low c d h = omega arith
 numbers_apart Low High c d h = omega arith
 numbers_apart High Low c d h = omega arith
@@ -63,7 +63,7 @@ starts p = record {
         (omega (arith, cell_of_both found.0 e found.2), λ none. absurd (omega arith)),
     λ both. Contains-flat_map both_ways (range_with_len 0 (length p.cells)) e.cell.0 e (in_range (length p.cells) e.cell.0 both.0) (both_has e.cell.0 e.end),
   );
-  rising = AllPairs-flat_map ◌<◌ (λ e f. number_of e < number_of f) both_ways (range_with_len 0 (length p.cells)) (range_rises (length p.cells)) (λ c at. both_rise c)
+  rising = AllPairs-flat_map ◌<◌ (λ e f. directed_number e < directed_number f) both_ways (range_with_len 0 (length p.cells)) (range_rises (length p.cells)) (λ c at. both_rise c)
       (λ c d u v at_c at_d lower in_c in_d. numbers_apart u.end v.end u.cell.0 v.cell.0 (omega (arith, cell_of_both c u in_c, cell_of_both d v in_d)));
 }
 
@@ -113,9 +113,9 @@ unfolding grown_by_advance
 advance_rises p t after k all = grown_rise p t after (t.length + k) (t.length + k) (directed (length p.cells)) [] all (starts p)
 
 -- and they are in order
-pub sweeps_rise : (p : InstanceParts) (t : TrainSpec) (after : List (List DirCell)) (advances : ℕ) → AreAfter p after → AllPairs IsBefore (sweeps_below p t.length after advances)
+pub sweeps_rise : (p : InstanceParts) (t : TrainSpec) (after : List (List DirCell)) (advances : ℕ) → AreAfter p after → AllPairs IsSweepBefore (sweeps_below p t.length after advances)
 sweeps_rise p t after advances all =
-    AllPairs-flat_map ◌<◌ IsBefore (grown_by_advance p t.length after) (range_with_len 0 advances) (range_rises advances)
-    (λ k at. weaker_pairs IsLower IsBefore (grown_by_advance p t.length after k) (advance_rises p t after k all)
+    AllPairs-flat_map ◌<◌ IsSweepBefore (grown_by_advance p t.length after) (range_with_len 0 advances) (range_rises advances)
+    (λ k at. weaker_pairs IsLower IsSweepBefore (grown_by_advance p t.length after k) (advance_rises p t after k all)
     (λ u v in_u in_v lower. inr (((of_advance p t after k u all).0 in_u).size_is ∙ sym ((of_advance p t after k v all).0 in_v).size_is, lower)))
     (λ k l u v at_k at_l lower in_u in_v. inl (omega (arith, ((of_advance p t after k u all).0 in_u).size_is, ((of_advance p t after l v all).0 in_v).size_is)))

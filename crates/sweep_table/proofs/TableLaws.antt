@@ -16,14 +16,14 @@ use Rattle.cell_net.specs.declared.ids.StationId.{StationId}
 use Rattle.cell_net.specs.declared.cells.DirCell.{DirCell}
 use Rattle.cell_net.specs.declared.trains.TrainSpec.{TrainSpec}
 use Rattle.cell_net.specs.declared.parts.InstanceParts.{InstanceParts}
-use Rattle.sweep_table.specs.Order.{number_of, IsBefore}
+use Rattle.sweep_table.specs.Order.{directed_number, IsSweepBefore}
 use Rattle.sweep_table.specs.Ends.{HaveEnds, ArePlaces, first_cells, last_cells}
 use Rattle.sweep_table.specs.Groups.{AreGroups}
-use Rattle.sweep_table.specs.Parts.{SweepParts, group_of, is_directed, begins_with, ends_with, has_station_cell, stands_within, station_of, table_of}
+use Rattle.sweep_table.specs.Parts.{SweepParts, group_of, is_directed, begins_with, ends_with, has_station_cell, stands_within, cells_of_station, table_of}
 use Rattle.sweep_table.specs.Sweeps.{AreSweepsOf, IsTableOf, IsStanding}
 use Rattle.sweep_table.specs.Tables.{Table, IsTable, Rises, AreItems, cells_of, next_of, prev_of}
 use Rattle.sweep_table.specs.declared.ids.SweepId.{SweepId}
-use Rattle.sweep_table.proofs.FollowLemmas.{same_directed}
+use Rattle.sweep_table.proofs.DirectedLaws.{begins_says, ends_says}
 use Rattle.sweep_table.proofs.OrderLaws.{not_before_itself, in_order}
 
 -- a part of a sweep as long as the train is a sweep that stands
@@ -75,56 +75,43 @@ group_rises : (keys : List ℕ) (groups : List (List SweepId)) (n k : ℕ) → A
 group_rises keys groups n k are size h = λ i d within. (are.each k (omega arith)).rising i (i + 1) d (omega arith) within
 
 -- two places in order with the same cells are one
-same_place : (rows : List (List DirCell)) (i j : ℕ) (one other : List DirCell) → AllPairs IsBefore rows → slice_get rows i ≡ Some one → slice_get rows j ≡ Some other → one ≡ other → i ≡ j
+same_place : (rows : List (List DirCell)) (i j : ℕ) (one other : List DirCell) → AllPairs IsSweepBefore rows → slice_get rows i ≡ Some one → slice_get rows j ≡ Some other → one ≡ other → i ≡ j
 same_place rows i j one other order at_i at_j same = elim (cases_order i j) [
   | inl here ↦ here
   | inr differ ↦ elim differ [
-    | inl low ↦ absurd (not_before_itself other (subst (λ r. IsBefore r other) same (in_order rows i j one other order at_i at_j low)))
-    | inr high ↦ absurd (not_before_itself other (subst (IsBefore other) same (in_order rows j i other one order at_j at_i high)))
+    | inl low ↦ absurd (not_before_itself other (subst (λ r. IsSweepBefore r other) same (in_order rows i j one other order at_i at_j low)))
+    | inr high ↦ absurd (not_before_itself other (subst (IsSweepBefore other) same (in_order rows j i other one order at_j at_i high)))
   ]
 ]
 
--- that the first or the last is a directed cell
-is_directed_says : (d : DirCell) (o : Option DirCell) → (is_directed d o ≡ true) ↔ (o ≡ Some d)
-is_directed_says d None = (λ h. absurd (false≢true h), λ h. absurd (none-some d h))
-is_directed_says d (Some c) = (λ h. ap Some (same_directed c d (eqb-true _ _ h)), λ h. eq-eqb _ _ (ap number_of (same_Some c d h)))
-
-begins_says : (d : DirCell) (cells : List DirCell) → (begins_with d cells ≡ true) ↔ (slice_get cells 0 ≡ Some d)
-unfolding begins_with
-begins_says d cells = is_directed_says d (slice_get cells 0)
-
-ends_says : (d : DirCell) (cells : List DirCell) → (ends_with d cells ≡ true) ↔ (slice_get cells (length cells - 1) ≡ Some d)
-unfolding ends_with
-ends_says d cells = is_directed_says d (slice_get cells (length cells - 1))
-
 -- that a station has a cell
-station_says : (p : InstanceParts) (station : StationId) (d : DirCell) → (has_station_cell (station_of p station.0) d ≡ true) ↔ IsCellOf p station d.cell
+station_says : (p : InstanceParts) (station : StationId) (d : DirCell) → (has_station_cell (cells_of_station p station.0) d ≡ true) ↔ IsCellOf p station d.cell
 unfolding has_station_cell IsCellOf
 station_says p station d = (
   λ has.
-      let found = Any-from_list_any (λ (c : CellId). nat_eq c.0 d.cell.0) (station_of p station.0) has in
+      let found = Any-from_list_any (λ (c : CellId). nat_eq c.0 d.cell.0) (cells_of_station p station.0) has in
       let c : CellId = found.1 in
       let same : c ≡ d.cell = λ i. record { 0 = eqb-true c.0 d.cell.0 found.4 i } in
       let within : station.0 < length p.stations = elim (cases_lt station.0 (length p.stations)) [
         | inl low ↦ low
-        | inr past ↦ absurd (let none : station_of p station.0 ≡ [] = get_or_past p.stations station.0 [] past in omega (arith, found.2, ap length none))
+        | inr past ↦ absurd (let none : cells_of_station p station.0 ≡ [] = get_or_past p.stations station.0 [] past in omega (arith, found.2, ap length none))
       ] in
-      (station_of p station.0, slice_get-get_or p.stations station.0 [] within, subst (Contains (station_of p station.0)) same (found.0, found.2, found.3)),
+      (cells_of_station p station.0, slice_get-get_or p.stations station.0 [] within, subst (Contains (cells_of_station p station.0)) same (found.0, found.2, found.3)),
   λ of_it.
-      let is : station_of p station.0 ≡ of_it.0 = get_or_from_slice_get p.stations station.0 of_it.0 [] of_it.1 in
-      let there : Contains (station_of p station.0) d.cell = subst (λ cs. Contains cs d.cell) (sym is) of_it.2 in
-      list_any-from_Any (λ (c : CellId). nat_eq c.0 d.cell.0) (station_of p station.0) (there.0, d.cell, there.1, there.2, eq-eqb d.cell.0 d.cell.0 refl),
+      let is : cells_of_station p station.0 ≡ of_it.0 = get_or_from_slice_get p.stations station.0 of_it.0 [] of_it.1 in
+      let there : Contains (cells_of_station p station.0) d.cell = subst (λ cs. Contains cs d.cell) (sym is) of_it.2 in
+      list_any-from_Any (λ (c : CellId). nat_eq c.0 d.cell.0) (cells_of_station p station.0) (there.0, d.cell, there.1, there.2, eq-eqb d.cell.0 d.cell.0 refl),
 )
 
-stands_says : (p : InstanceParts) (t : TrainSpec) (station : StationId) (cells : List DirCell) → (stands_within t.length (station_of p station.0) cells ≡ true) ↔ IsStanding p t station cells
+stands_says : (p : InstanceParts) (t : TrainSpec) (station : StationId) (cells : List DirCell) → (stands_within t.length (cells_of_station p station.0) cells ≡ true) ↔ IsStanding p t station cells
 unfolding stands_within
 stands_says p t station cells = (
   λ h.
-      let both = and_parts (nat_eq (length cells) t.length) (list_all (has_station_cell (station_of p station.0)) cells) h in
-      let all = AllPass-from_list_all (has_station_cell (station_of p station.0)) cells both.1 in
+      let both = and_parts (nat_eq (length cells) t.length) (list_all (has_station_cell (cells_of_station p station.0)) cells) h in
+      let all = AllPass-from_list_all (has_station_cell (cells_of_station p station.0)) cells both.1 in
       record { stands = eqb-true _ _ both.0; inside = λ k d low. (station_says p station (get_or cells k d)).0 (all k d low) },
   λ standing.
-      and_from _ _ (eq-eqb _ _ standing.stands) (list_all-from_AllPass (has_station_cell (station_of p station.0)) cells (λ k d low. (station_says p station (get_or cells k d)).1 (standing.inside k d low))),
+      and_from _ _ (eq-eqb _ _ standing.stands) (list_all-from_AllPass (has_station_cell (cells_of_station p station.0)) cells (λ k d low. (station_says p station (get_or cells k d)).1 (standing.inside k d low))),
 )
 
 module _ (p : InstanceParts) (t : TrainSpec) (sweeps : List (List DirCell)) (firsts lasts : List ℕ) (starting ending : List (List SweepId))
@@ -175,7 +162,7 @@ module _ (p : InstanceParts) (t : TrainSpec) (sweeps : List (List DirCell)) (fir
     prev_for_each = length-map firsts (group_of ending) ∙ first.for_each;
     entries_for_each = length-map sweeps (begins_with t.entry);
     goals_for_each = length-map sweeps (ends_with t.goal);
-    stands_for_each = λ station. length-map sweeps (stands_within t.length (station_of p station));
+    stands_for_each = λ station. length-map sweeps (stands_within t.length (cells_of_station p station));
     cells = λ k d h. ((are.each (get_or sweeps k d)).0 (Contains-get_or sweeps k d h)).path.cells;
     next_are_items = All-map (AreItems (length sweeps)) (group_of starting) lasts (λ k d h. group_items firsts starting (length sweeps) _ starts first.for_each (last.in_range k d h));
     next_rise = All-map Rises (group_of starting) lasts (λ k d h. group_rises firsts starting (length sweeps) _ starts first.for_each (last.in_range k d h));
@@ -194,7 +181,7 @@ module _ (p : InstanceParts) (t : TrainSpec) (sweeps : List (List DirCell)) (fir
         subst (λ b. (b ≡ true) ↔ (slice_get (cells_of table v.0) 0 ≡ Some t.entry)) (sym at) (begins_says t.entry (cells_of table v.0));
     goals = λ v h. let at = get_or-map (ends_with t.goal) sweeps v.0 [] false h in
         subst (λ b. (b ≡ true) ↔ (slice_get (cells_of table v.0) (length (cells_of table v.0) - 1) ≡ Some t.goal)) (sym at) (ends_says t.goal (cells_of table v.0));
-    stands = λ station v h. let at = get_or-map (stands_within t.length (station_of p station.0)) sweeps v.0 [] false h in
+    stands = λ station v h. let at = get_or-map (stands_within t.length (cells_of_station p station.0)) sweeps v.0 [] false h in
         subst (λ b. (b ≡ true) ↔ IsStanding p t station (cells_of table v.0)) (sym at) (stands_says p t station (cells_of table v.0));
     goes_on = goes_on;
   }

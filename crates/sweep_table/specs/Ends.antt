@@ -1,7 +1,7 @@
 -- The first and the last cells of each sweep, by the place of the sweep that they are.
 use Rattle.std.specs.Prelude.{◌≡◌, ◌<◌, ◌≤◌, ◌-◌, ℕ, List, length, All, AllPairs, Some, slice_get, slice_index, Contains, take, drop}
 use Rattle.cell_net.specs.declared.cells.DirCell.{DirCell}
-use Rattle.sweep_table.specs.Order.{IsBefore}
+use Rattle.sweep_table.specs.Order.{IsSweepBefore}
 
 -- the first cells, and the last ones
 abbrev pub first_cells : ℕ → List DirCell → List DirCell
@@ -14,7 +14,7 @@ last_cells train cells = drop (length cells - train) cells
 -- first and the last cells of each
 pub record HaveEnds (train : ℕ) (sweeps : List (List DirCell)) : Type 0 where
   pub few : length sweeps ≤ 50000
-  pub order : AllPairs IsBefore sweeps
+  pub order : AllPairs IsSweepBefore sweeps
   pub long : All (λ w. train ≤ length w) sweeps
   pub first : All (λ w. Contains sweeps (first_cells train w)) sweeps
   pub last : All (λ w. Contains sweeps (last_cells train w)) sweeps

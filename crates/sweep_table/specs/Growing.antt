@@ -6,7 +6,7 @@ use Rattle.cell_net.specs.declared.cells.End.TheVariants.{Low, High}
 use Rattle.cell_net.specs.declared.cells.DirCell.{DirCell}
 use Rattle.cell_net.specs.declared.cells.CellSpec.{CellSpec}
 use Rattle.cell_net.specs.declared.parts.InstanceParts.{InstanceParts}
-use Rattle.sweep_table.specs.Order.{number_of}
+use Rattle.sweep_table.specs.Order.{directed_number}
 use Rattle.sweep_table.specs.declared.refusal.TableRefusal.{TableRefusal}
 use Rattle.sweep_table.specs.declared.refusal.TableRefusal.TheVariants.{TooManySweeps, Memory}
 
@@ -25,44 +25,36 @@ both_ways cell = lowward cell ∷ highward cell ∷ []
 abbrev pub directed : ℕ → List DirCell
 directed count = flat_map both_ways (range_with_len 0 count)
 
--- the directed cells of numbers below this one that follow the one before, by their numbers
-pub record AreFollowersBelow (p : InstanceParts) (before : DirCell) (number : ℕ) (found : List DirCell) : Type 0 where
-  pub follow : (e : DirCell) → Contains found e ↔ ((number_of e < number) × Follows p before e)
-  pub rising : AllPairs (λ e f. number_of e < number_of f) found
-
 -- all directed cells that follow the one before, by their numbers
-abbrev pub AreFollowers : InstanceParts → DirCell → List DirCell → Type 0
-AreFollowers p before = AreFollowersBelow p before (2 * length p.cells)
+pub record AreFollowers (p : InstanceParts) (before : DirCell) (found : List DirCell) : Type 0 where
+  pub follow : (e : DirCell) → Contains found e ↔ ((directed_number e < 2 * length p.cells) × Follows p before e)
+  pub rising : AllPairs (λ e f. directed_number e < directed_number f) found
 
 -- what follows a directed cell, in the list of these by number
 abbrev pub after_of : List (List DirCell) → DirCell → List DirCell
-after_of after d = slice_index_or after (number_of d) []
-
--- the list holds for each directed cell of number below this one those that follow it
-pub record AreAfterBelow (p : InstanceParts) (number : ℕ) (after : List (List DirCell)) : Type 0 where
-  pub for_each : length after ≡ number
-  pub each : (d : DirCell) → number_of d < number → AreFollowers p d (after_of after d)
+after_of after d = slice_index_or after (directed_number d) []
 
 -- the list holds for each directed cell those that follow it
-abbrev pub AreAfter : InstanceParts → List (List DirCell) → Type 0
-AreAfter p = AreAfterBelow p (2 * length p.cells)
+pub record AreAfter (p : InstanceParts) (after : List (List DirCell)) : Type 0 where
+  pub for_each : length after ≡ 2 * length p.cells
+  pub each : (d : DirCell) → directed_number d < 2 * length p.cells → AreFollowers p d (after_of after d)
 
 -- the limit of a directed cell's cell
 abbrev pub limit_in : Option CellSpec → ℕ
 limit_in None = 0
 limit_in (Some cell) = cell.limit
 
-abbrev pub limit_of : InstanceParts → DirCell → ℕ
-limit_of p d = limit_in (slice_get p.cells d.cell.0)
+abbrev pub cell_limit : InstanceParts → DirCell → ℕ
+cell_limit p d = limit_in (slice_get p.cells d.cell.0)
 
 -- whether the path has the cell
-abbrev pub has_cell : List DirCell → DirCell → Bool
-has_cell path d = list_any (λ c. nat_eq c.cell.0 d.cell.0) path
+abbrev pub path_has_cell : List DirCell → DirCell → Bool
+path_has_cell path d = list_any (λ c. nat_eq c.cell.0 d.cell.0) path
 
 -- whether the path to be of so many cells may go on with the directed cell: it doesn't have its cell,
 -- and a train of this length may advance so far over it
 unfoldable pub may_go_on : InstanceParts → ℕ → ℕ → List DirCell → DirCell → Bool
-may_go_on p train count path d = not (has_cell path d) && nat_le count (train + limit_of p d)
+may_go_on p train count path d = not (path_has_cell path d) && nat_le count (train + cell_limit p d)
 
 -- the paths that go on with the directed cell, if the path may: the rest of them, by what follows it
 unfoldable pub branch : InstanceParts → ℕ → List (List DirCell) → ℕ → (List DirCell → List DirCell → List (List DirCell)) → List DirCell → DirCell → List (List DirCell)

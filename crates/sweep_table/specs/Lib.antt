@@ -3,6 +3,8 @@ pub mod Tables
 pub mod Order
 pub mod Sweeps
 pub mod Growing
+pub mod Successions
+pub mod Reach
 pub mod Groups
 pub mod Ends
 pub mod Parts

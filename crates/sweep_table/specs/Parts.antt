@@ -6,7 +6,7 @@ use Rattle.cell_net.specs.declared.ids.CellId.{CellId}
 use Rattle.cell_net.specs.declared.cells.DirCell.{DirCell}
 use Rattle.cell_net.specs.declared.trains.TrainSpec.{TrainSpec}
 use Rattle.cell_net.specs.declared.parts.InstanceParts.{InstanceParts}
-use Rattle.sweep_table.specs.Order.{number_of}
+use Rattle.sweep_table.specs.Order.{directed_number}
 use Rattle.sweep_table.specs.Tables.{Table}
 use Rattle.sweep_table.specs.declared.ids.SweepId.{SweepId}
 
@@ -27,7 +27,7 @@ group_of groups number = slice_index_or groups number []
 -- whether this is that directed cell
 abbrev pub is_directed : DirCell → Option DirCell → Bool
 is_directed d None = false
-is_directed d (Some c) = nat_eq (number_of c) (number_of d)
+is_directed d (Some c) = nat_eq (directed_number c) (directed_number d)
 
 -- whether the cells begin with the directed cell, and whether they end with it
 unfoldable pub begins_with : DirCell → List DirCell → Bool
@@ -45,8 +45,8 @@ unfoldable pub stands_within : ℕ → List CellId → List DirCell → Bool
 stands_within train station cells = nat_eq (length cells) train && list_all (has_station_cell station) cells
 
 -- the cells of the station with that number
-abbrev pub station_of : InstanceParts → ℕ → List CellId
-station_of p station = slice_index_or p.stations station []
+abbrev pub cells_of_station : InstanceParts → ℕ → List CellId
+cells_of_station p station = slice_index_or p.stations station []
 
 -- the table of moves of the sweeps on the instance
 abbrev pub table_of : InstanceParts → SweepParts → Table
@@ -56,11 +56,11 @@ table_of p s = record {
   prev = s.prev;
   entries = map (begins_with s.entry) s.sweeps;
   goals = map (ends_with s.goal) s.sweeps;
-  stands = λ station. map (stands_within s.train (station_of p station)) s.sweeps;
+  stands = λ station. map (stands_within s.train (cells_of_station p station)) s.sweeps;
 }
 
 -- the numbers of groups are such numbers, one for each sweep, and there are not too many
-pub record AreKept (sweeps : List (List DirCell)) (numbers : List ℕ) (groups : List (List SweepId)) : Type 0 where
+pub record NameGroups (sweeps : List (List DirCell)) (numbers : List ℕ) (groups : List (List SweepId)) : Type 0 where
   pub few : length sweeps ≤ 50000
   pub for_each : length numbers ≡ length sweeps
   pub in_range : All (λ n. n < length groups) numbers

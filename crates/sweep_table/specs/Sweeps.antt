@@ -5,7 +5,7 @@ use Rattle.cell_net.specs.declared.ids.StationId.{StationId}
 use Rattle.cell_net.specs.declared.cells.DirCell.{DirCell}
 use Rattle.cell_net.specs.declared.trains.TrainSpec.{TrainSpec}
 use Rattle.cell_net.specs.declared.parts.InstanceParts.{InstanceParts}
-use Rattle.sweep_table.specs.Order.{IsBefore}
+use Rattle.sweep_table.specs.Order.{IsSweepBefore}
 use Rattle.sweep_table.specs.Tables.{Table, cells_of, next_of, is_entry, is_goal, stands_in}
 use Rattle.sweep_table.specs.declared.ids.SweepId.{SweepId}
 use Rattle.sweep_table.specs.declared.refusal.TableRefusal.{TableRefusal}
@@ -19,7 +19,7 @@ pub record IsStanding (p : InstanceParts) (t : TrainSpec) (station : StationId) 
 -- each sweep of the train once, and nothing else, in order
 pub record AreSweepsOf (p : InstanceParts) (t : TrainSpec) (sweeps : List (List DirCell)) : Type 0 where
   pub each : (w : List DirCell) → Contains sweeps w ↔ IsSweep p t w
-  pub in_order : AllPairs IsBefore sweeps
+  pub in_order : AllPairs IsSweepBefore sweeps
 
 -- the table holds each sweep of the train once, and nothing else, in order; an entry begins with the
 -- train's entry cell, a goal ends with its goal cell; and after a sweep come exactly those that go on

@@ -8,7 +8,7 @@ ghost use Rattle.sweep_table.specs.Sweeps.{AreSweepsOf, IsTableOf, IsTableRefusa
 
 use crate::ends::{firsts_of, lasts_of};
 use crate::groups::grouped;
-use crate::grow::{Growth, gather};
+use crate::grow::gather;
 use crate::refusal::TableRefusal;
 use crate::successors::successors_of;
 use crate::table::SweepTable;
@@ -17,8 +17,9 @@ use std::alloc::{AllocError, Global};
 use vss_rows::Rows;
 
 impl SweepTable {
-    /// The table of the train's sweeps. Linear in the sweeps and in the paths grown on the way, but for
-    /// a search and the cells' pairs of ends.
+    /// The table of the train's sweeps. Where no way along the passages comes back to a cell, it is linear in
+    /// the directed cells of the sweeps, up to a search for each sweep and a sort of the joins, and in the
+    /// train's length times the cells and the joins. Where ways come back, more paths may be tried.
     pub fn build(alloc: Global, inst: &Instance, train: TrainId) -> Result<SweepTable, TableRefusal>
         requires { train.0 < length inst.now.trains }
         ensures sweeps { (t : TrainSpec) → slice_get inst.now.trains train.0 ≡ Some t → IfOk result (λ table. IsTableOf inst.now t (table_of inst.now table)) }
@@ -59,14 +60,7 @@ fn sweeps_of(
     ensures refusal { IfErr result (IsTableRefusal inst.now train.now) }
 {
     match successors_of(alloc, inst) {
-        Ok(after) => {
-            let growth = Growth {
-                inst,
-                after: &after,
-                train: train.length,
-            };
-            gather(alloc, &growth, train.advance + 1)
-        }
+        Ok(after) => gather(alloc, inst, &after, train.length, train.advance + 1),
         Err(_) => Err(TableRefusal::Memory),
     }
 }

@@ -15,9 +15,19 @@ pub(crate) fn grouped(alloc: Global, keys: &[u32]) -> Result<Rows<SweepId>, Allo
     ensures { IfOk result (AreGroups keys.now) }
 {
     let groups = groups_of(alloc, keys)?;
+    rows_of(alloc, &groups)
+}
+
+/// The lists as rows.
+pub(crate) fn rows_of<T: Copy + Drop>(
+    alloc: Global,
+    lists: &[Items<T>],
+) -> Result<Rows<T>, AllocError>
+    ensures { IfOk result (λ rows. rows ≡ lists.now) }
+{
     let mut rows = Rows::new(alloc);
-    for key in 0..groups.len() {
-        rows.push(groups[key].as_slice())?;
+    for place in 0..lists.len() {
+        rows.push(lists[place].as_slice())?;
     }
     Ok(rows)
 }
@@ -34,15 +44,16 @@ fn groups_of(alloc: Global, keys: &[u32]) -> Result<Vec<Items<SweepId>>, AllocEr
     Ok(groups)
 }
 
-fn none_of(alloc: Global, count: usize) -> Result<Vec<Items<SweepId>>, AllocError>
-    ensures count { IfOk result (λ groups. length groups.items ≡ count) }
-    ensures none { IfOk result (λ groups. All (λ g. g ≡ []) groups.items) }
+/// So many empty lists.
+pub(crate) fn none_of<T: Drop>(alloc: Global, count: usize) -> Result<Vec<Items<T>>, AllocError>
+    ensures count { IfOk result (λ lists. length lists.items ≡ count) }
+    ensures none { IfOk result (λ lists. All (λ g. g ≡ []) lists.items) }
 {
-    let mut groups = Vec::with_capacity(alloc, count)?;
+    let mut lists = Vec::with_capacity(alloc, count)?;
     for _ in 0..count {
-        groups.push(Items::new(alloc))?;
+        lists.push(Items::new(alloc))?;
     }
-    Ok(groups)
+    Ok(lists)
 }
 
 fn put(groups: &mut Vec<Items<SweepId>>, group: usize, id: SweepId) -> Result<(), AllocError>

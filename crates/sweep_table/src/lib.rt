@@ -9,6 +9,7 @@ mod grow;
 mod ids;
 mod moves;
 mod order;
+mod reach;
 mod refusal;
 mod successors;
 mod table;

@@ -6,9 +6,9 @@ ghost use Rattle.sweep_table.specs.Tables.{IsTable};
 ghost use Rattle.sweep_table.specs.Parts.{begins_with, ends_with, has_station_cell, stands_within, table_of};
 ghost use Rattle.sweep_table.specs.Sweeps.{IsTableOf, IsTableRefusal};
 
-use crate::grow::number_of;
 use crate::ids::SweepId;
 use crate::moves::Moves;
+use crate::order::directed_number;
 use cell_net::{CellId, DirCell, Instance, StationId};
 use std::marker::Model;
 use vss_rows::Rows;
@@ -34,7 +34,7 @@ pub struct SweepTable {
 
 impl Model for SweepTable {
     ghost use Rattle.std.specs.Prelude.{map};
-    ghost use Rattle.sweep_table.specs.Parts.{SweepParts, AreKept, group_of};
+    ghost use Rattle.sweep_table.specs.Parts.{SweepParts, NameGroups, group_of};
 
     ghost Value = { SweepParts };
 
@@ -47,7 +47,7 @@ impl Model for SweepTable {
       prev = map (group_of t.ending) t.firsts.items;
     } };
 
-    ghost invariant = { λ t. AreKept t.sweeps t.lasts.items t.starting × AreKept t.sweeps t.firsts.items t.ending };
+    ghost invariant = { λ t. NameGroups t.sweeps t.lasts.items t.starting × NameGroups t.sweeps t.firsts.items t.ending };
 }
 
 impl Moves for SweepTable {
@@ -100,18 +100,18 @@ fn begins_with(directed: DirCell, cells: &[DirCell]) -> bool
     ensures { result ≡ begins_with directed cells.now }
 {
     match cells.first() {
-        Some(first) => number_of(*first) == number_of(directed),
+        Some(first) => directed_number(*first) == directed_number(directed),
         None => false,
     }
 }
 
 /// Whether the cells end with the directed cell.
 #[tactic(auto, unfolding(crate::specs::Parts::ends_with))]
-fn ends_with(directed: DirCell, cells: &[DirCell]) -> bool
+pub(crate) fn ends_with(directed: DirCell, cells: &[DirCell]) -> bool
     ensures { result ≡ ends_with directed cells.now }
 {
     match cells.last() {
-        Some(last) => number_of(*last) == number_of(directed),
+        Some(last) => directed_number(*last) == directed_number(directed),
         None => false,
     }
 }

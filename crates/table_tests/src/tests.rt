@@ -3,5 +3,6 @@
 mod limits;
 mod nets;
 mod plain;
+mod stations;
 mod sweeps;
 mod walks;

@@ -2,5 +2,13 @@
 pub mod SessionLemmas
 pub mod MeaningLemmas
 pub mod GivenLemmas
-pub mod OnceLemmas
+pub mod TableLemmas
 pub mod Truth
+pub mod AlikeLemmas
+pub mod EncodingLemmas
+pub mod OnceLemmas
+pub mod CounterLemmas
+pub mod UnitLemmas
+pub mod ChainLemmas
+pub mod RefutedLemmas
+pub mod SearchingLemmas

@@ -2,19 +2,24 @@
 use Rattle.std.proofs.Common.{◌≡◌, ℕ, ◌+◌, List, [], ◌∷◌, ◌++◌, length, map, refl, sym, ap, subst, ◌∙◌, arith, Bool, true, false, cond, ◌<◌, nat_lt, min}
 use Rattle.std.proofs.lemmas.Bool.{ltb-true}
 use Rattle.std.proofs.lemmas.List.{append-nil}
-use Rattle.sat_core.specs.Clauses.{IsOver}
-use Rattle.std.specs.Prelude.{None}
+use Rattle.sat_core.specs.Clauses.{IsClause, IsOver, SatisfiesAll}
+use Rattle.sat_core.specs.Storage.{FormulaParts}
+use Rattle.std.specs.Prelude.{All, Option, Some, None}
 use Rattle.sat_core.specs.declared.literal.Lit.{Lit}
 use Rattle.sat_core.specs.Derivation.{DerivedStep, adds, drops, AreAccepted, database_of, EndsInEmptyClause, Refutes}
+use Rattle.derivation_log.specs.declared.step.Bound.{Bound}
 use Rattle.derivation_log.specs.declared.step.Bound.TheVariants.{Given, AtMost}
 use Rattle.cell_net.specs.declared.parts.InstanceParts.{InstanceParts}
 use Rattle.sat_core.specs.Search.{Event, gives, derives, Search, search_of, after_event, AreNext, log_of, adds_in}
-use Rattle.solver_face.specs.Solving.{Solving, Searched, EndsInAdd, AddNoEmptyClause}
+use Rattle.solver_face.specs.Solving.{Solving, IsSolution, Searched, ShowsSolution, EndsInAdd, AddNoEmptyClause}
 use Rattle.solver_face.proofs.SolvingLaws.{search_is, conflicts_grow}
 use Rattle.sat_core.proofs.SearchLaws.{log_of-derives}
-use Rattle.task_driver.specs.Questions.{of_kept, of_at_most, Formulas}
+use Rattle.task_driver.specs.Questions.{Question, of_kept, of_at_most, of_fewest, Formulas}
+use Rattle.task_driver.specs.Encodings.{AsksOnce}
+use Rattle.task_driver.proofs.EncodingLemmas.{unit_over}
 use Rattle.task_driver.specs.Sessions.{bound, step, session_events}
-use Rattle.task_driver.specs.Outcomes.{IsSpent, formula_of}
+use Rattle.task_driver.specs.Outcomes.{IsSmaller, IsSpent, vars_of, formula_of}
+use Rattle.vss_report.specs.declared.outcome.Smaller.TheVariants as smaller
 use Rattle.task_driver.proofs.GivenLemmas.{given_first}
 use Rattle.task_driver.proofs.SessionLemmas.{session_events-steps, bounds_of-steps}
 
@@ -109,3 +114,26 @@ spent_within f p most before now had left none same_vars same_formula over searc
   where
     below : nat_lt (min most (length p.candidates)) (length p.candidates) ≡ true → min most (length p.candidates) < length p.candidates
     below is = ltb-true (min most (length p.candidates)) (length p.candidates) is
+
+-- a first call that used up the budget is a session of a question that asks about one bound
+pub spent_once : (f : Formulas) (p : InstanceParts) (q : Question) (b : Bound) (before now : Solving) (had left : ℕ) → AsksOnce p q b → before.events ≡ [] → before.vars ≡ vars_of f b → before.formula ≡ formula_of f p b
+    → All (IsClause (vars_of f b)) (formula_of f p b) → Searched before now had left → left ≡ 0 → EndsInAdd (log_of now.events) → AddNoEmptyClause (log_of now.events) → IsSpent f p q had had None
+spent_once f p of_kept b before now had left asks none same_vars same_formula clauses searched gone ends no_empty =
+    spent_given f p before now had left none (subst (λ (c : Bound). before.vars ≡ vars_of f c) asks same_vars) (subst (λ (c : Bound). before.formula ≡ formula_of f p c) asks same_formula) searched gone ends no_empty
+spent_once f p (of_at_most most) b before now had left asks none same_vars same_formula clauses searched gone ends no_empty =
+    spent_within f p most before now had left none (subst (λ (c : Bound). before.vars ≡ vars_of f c) asks same_vars) (subst (λ (c : Bound). before.formula ≡ formula_of f p c) asks same_formula)
+    (unit_over p f (min most (length p.candidates)) (subst (λ (c : Bound). All (IsClause (vars_of f c)) (formula_of f p c)) asks clauses)) searched gone ends no_empty
+spent_once f p of_fewest b before now had left asks none same_vars same_formula clauses searched gone ends no_empty = absurd asks
+
+-- a valuation that a first call found satisfies the formula
+pub found_in : (f : FormulaParts) (before now : Solving) (had left : ℕ) (values : List Bool) → before.vars ≡ f.vars → before.formula ≡ f.clauses → Searched before now had left → ShowsSolution now now.found → now.found ≡ Some values
+    → (length values ≡ f.vars) × SatisfiesAll values f.clauses
+found_in f before now had left values same_vars same_formula searched shows is =
+    let solution : IsSolution now values = subst (λ (o : Option (List Bool)). ShowsSolution now o) is shows in
+    (solution.for_each ∙ (searched.same_vars ∙ same_vars), subst (SatisfiesAll values) (searched.same_formula ∙ same_formula) solution.formula)
+
+-- nothing is said of smaller layouts where the fewest borders aren't asked for
+pub not_asked : (f : Formulas) (p : InstanceParts) (q : Question) (b : Bound) (count : ℕ) → AsksOnce p q b → IsSmaller f p q count smaller.NotAsked
+not_asked f p of_kept b count asks = tt
+not_asked f p (of_at_most most) b count asks = tt
+not_asked f p of_fewest b count asks = absurd asks

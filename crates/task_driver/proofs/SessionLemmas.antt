@@ -4,7 +4,7 @@ use Rattle.std.specs.Prelude.{Option, Some, None}
 use Rattle.std.proofs.lemmas.Bool.Decides.{nat_tests}
 use Rattle.std.proofs.lemmas.List.{map-append, append-nil, append_assoc}
 use Rattle.sat_core.specs.declared.literal.Lit.{Lit}
-use Rattle.sat_core.specs.Derivation.{DerivedStep, EndsInEmptyClause}
+use Rattle.sat_core.specs.Derivation.{DerivedStep}
 use Rattle.sat_core.specs.Clauses.{IsTrueIn}
 use Rattle.std.specs.Prelude.{All}
 use Rattle.std.proofs.lemmas.List.Elements.{All-head, All-tail}
@@ -21,7 +21,7 @@ use Rattle.sat_core.proofs.SearchLaws.{adds_given, units_given, units_searched}
 use Rattle.task_driver.specs.Questions.{of_fewest, Formulas}
 use Rattle.task_driver.specs.Sessions.{Entry, bound, step, bounds_of, BeginsWithBound, last_of, event_of, session_events, IsLater, AreLater, IsBest}
 use Rattle.task_driver.specs.Outcomes.{IsSpent}
-use Rattle.task_driver.specs.Underway.{last_number, IsUnderway, IsRefutedSearch}
+use Rattle.task_driver.specs.Underway.{last_number, IsUnderway}
 
 bounds_of-append : (one other : List Entry) → bounds_of (one ++ other) ≡ bounds_of one ++ bounds_of other
 bounds_of-append [] other = refl
@@ -164,7 +164,7 @@ spent_underway f p budget s left bounds best was gone ends none = record {
 }
 
 -- bounds fall
-falling_step : (p : InstanceParts) (m k : ℕ) → IsLater p (AtMost m) (AtMost k) → (k < m) × (length p.kept ≤ k)
+pub falling_step : (p : InstanceParts) (m k : ℕ) → IsLater p (AtMost m) (AtMost k) → (k < m) × (length p.kept ≤ k)
 falling_step p m k later =
     let one : k ≡ later.most = at_most_one k later.most later.is in
     let other : m ≡ later.had = at_most_one m later.had later.was in
@@ -174,7 +174,7 @@ falling_step p m k later =
     at_most_one a b e = cc
 
 -- the last bound behind the first is below it, and no fewer than are kept
-falling_last : (p : InstanceParts) (m k : ℕ) (bounds : List ℕ) → AreLater p of_fewest (AtMost m) (map AtMost (k ∷ bounds)) → (last_number k bounds < m) × (length p.kept ≤ last_number k bounds)
+pub falling_last : (p : InstanceParts) (m k : ℕ) (bounds : List ℕ) → AreLater p of_fewest (AtMost m) (map AtMost (k ∷ bounds)) → (last_number k bounds < m) × (length p.kept ≤ last_number k bounds)
 falling_last p m k [] are = falling_step p m k are.0
 falling_last p m k (j ∷ bounds) are =
     let first = falling_step p m k are.0 in
@@ -198,18 +198,6 @@ count_within p u values (k ∷ bounds) count are all few most =
 pub last_within : (p : InstanceParts) (bounds : List ℕ) → AreLater p of_fewest (AtMost (length p.candidates)) (map AtMost bounds) → last_number (length p.candidates) bounds ≤ length p.candidates
 last_within p [] are = omega arith
 last_within p (k ∷ bounds) are = let below : last_number k bounds < length p.candidates = (falling_last p (length p.candidates) k bounds are).0 in omega arith
-
--- the search is refuted: its log refutes the free formula with the units
-pub refuted_underway : (f : Formulas) (p : InstanceParts) (budget : ℕ) (s : Solving) (left : ℕ) (bounds : List ℕ) (best : Option (List CandidateId × Plan)) (log : List DerivedStep)
-    → IsUnderway f p budget s left bounds best → log ≡ log_of s.events → EndsInEmptyClause (log_of s.events) → IsRefutedSearch f p log bounds
-refuted_underway f p budget s left bounds best log was is ends = record {
-  events = s.events;
-  log_is = is;
-  units_are = was.units;
-  search = search_is s f.free_vars f.free was.sound was.vars was.formula;
-  refuted = subst EndsInEmptyClause (sym is) ends;
-  falling = was.falling;
-}
 
 -- the best design has one border more than the last bound
 pub best_count : (p : InstanceParts) (most : ℕ) (bounds : List ℕ) (layout : List CandidateId) (plan : Plan)

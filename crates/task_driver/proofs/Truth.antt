@@ -45,6 +45,7 @@ use Rattle.log_checker.specs.declared.verdict.LogVerdict.TheVariants as verdict
 use Rattle.task_driver.specs.Outcomes.{vars_of, formula_of, RefuteBound, AreComplete}
 use Rattle.task_driver.specs.InstanceFormulas.{formulas_of}
 use Rattle.task_driver.specs.TaskEnds.{task_of, bound_task, AreFormulasOf, OutcomesAreTrue, RefutationsAreTrue}
+use Rattle.task_driver.proofs.TableLemmas.{tables_in, are_tables, swept_in}
 use Rattle.task_driver.proofs.MeaningLemmas.{CountsOfLayouts, answers}
 
 -- candidates that rise at each place rise
@@ -96,7 +97,7 @@ layout_counts p rules borders layout =
     (omega (arith, fewer, length-map p.kept (λ c. c.0), length-map borders (λ c. c.0)), omega (arith, most, length-map borders (λ c. c.0)))
 
 -- the kept borders are a layout
-kept_layout : (p : InstanceParts) → IsInstance p → IsLayout p p.kept
+pub kept_layout : (p : InstanceParts) → IsInstance p → IsLayout p p.kept
 kept_layout p rules = record {
   set = record {
     rising = record { at_each = λ k item is. (rules.kept.at_each k item is).rises };
@@ -106,7 +107,7 @@ kept_layout p rules = record {
 }
 
 -- the free formula with the unit of a bound is the task of the bound
-formula_is : (p : InstanceParts) (gaps : List (List (List (List CandidateId)))) (tables : List Table) (most : ℕ) → formula_of (formulas_of p gaps tables) p (AtMost most) ≡ free_task p gaps tables most
+pub formula_is : (p : InstanceParts) (gaps : List (List (List (List CandidateId)))) (tables : List Table) (most : ℕ) → formula_of (formulas_of p gaps tables) p (AtMost most) ≡ free_task p gaps tables most
 formula_is p gaps tables most =
     let counted : List (List (List Lit)) = counted_families (walks_in gaps) (network_of p) tables (trains_of p tables) (first_of_count p tables) in
     let bound : List (List Lit) = most_clauses (first_of_count p tables) (length p.candidates) most in
@@ -145,7 +146,8 @@ pub complete : (p : InstanceParts) (task : Task) (f : Formulas) → LogsAreSound
     → IsInstance p → AreFormulasOf p task f → AreComplete f p
 complete p task f sound given free rules are =
     subst (λ (g : Formulas). AreComplete g p) (sym are.formulas_are)
-    (is_complete p are.gaps are.tables rules are.are_gaps are.are_tables are.swept (few_numbers p task are.tables rules are.few.few_variables) sound (given are.gaps are.tables) (free are.gaps are.tables))
+    (is_complete p are.has.gaps (tables_in p are.has.sweeps) rules are.has.are_gaps (are_tables p are.has.sweeps are.has.are_tables) (swept_in p are.has.sweeps are.has.are_tables)
+    (few_numbers p task (tables_in p are.has.sweeps) rules are.has.few.few_variables) sound (given are.has.gaps (tables_in p are.has.sweeps)) (free are.has.gaps (tables_in p are.has.sweeps)))
 
 pub outcomes_true : (p : InstanceParts) → LogsAreSound → ((gaps : GapLists) (tables : List Table) → GivenRefutes p gaps tables p.kept) → ((gaps : GapLists) (tables : List Table) (most : ℕ) → FreeRefutes p gaps tables most) → OutcomesAreTrue p
 outcomes_true p sound given free rules q budget o end =

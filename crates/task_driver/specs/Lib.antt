@@ -2,6 +2,8 @@
 pub mod Questions
 pub mod Sessions
 pub mod Outcomes
+pub mod BoundUnits
 pub mod Underway
 pub mod InstanceFormulas
 pub mod TaskEnds
+pub mod Encodings

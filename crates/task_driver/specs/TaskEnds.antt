@@ -1,23 +1,18 @@
 -- How a task ends: with an outcome or a verdict over the formulas of its instance, or with a refusal of size.
-use Rattle.std.specs.Prelude.{◌≡◌, ◌≢◌, ◌⊎◌, ℕ, List, Result, Ok, Err}
-use Rattle.std.specs.List.{AllZip}
+use Rattle.std.specs.Prelude.{◌≡◌, ◌≢◌, ℕ, map, Result, Ok, Err}
 use Rattle.cell_net.specs.Rules.{IsInstance}
 use Rattle.cell_net.specs.declared.parts.InstanceParts.{InstanceParts}
 use Rattle.derivation_log.specs.Steps.{derived_steps}
 use Rattle.derivation_log.specs.declared.step.Bound.{Bound}
 use Rattle.derivation_log.specs.declared.step.Bound.TheVariants as bound
 use Rattle.derivation_log.specs.declared.step.Refutation.{Refutation}
-use Rattle.gap_clauses.specs.Gaps.{AreGaps}
-use Rattle.sweep_table.specs.Sweeps.{IsTableOf}
-use Rattle.sweep_table.specs.Tables.{Table}
-use Rattle.plan_laws.specs.Satisfied.{AreTables}
-use Rattle.clause_encoder.specs.Plans.{GapLists}
-use Rattle.clause_encoder.specs.Encoding.{HasFewOfAll, task_variables, sized_clauses, sized_units}
+use Rattle.sweep_table.specs.Parts.{table_of}
 use Rattle.clause_encoder.specs.SweepTables.{IsEncodeRefusal}
 use Rattle.clause_encoder.specs.declared.task.Task.{Task}
 use Rattle.clause_encoder.specs.declared.task.Task.TheVariants.{Given, Free}
 use Rattle.clause_encoder.specs.declared.task.EncodeRefusal.{EncodeRefusal}
 use Rattle.clause_encoder.specs.declared.task.EncodeRefusal.TheVariants.{Memory}
+use Rattle.formula_laws.specs.Laws.{HasFormula}
 use Rattle.log_checker.specs.Verdicts.{IsVerdict}
 use Rattle.log_checker.specs.declared.verdict.LogVerdict.{LogVerdict}
 use Rattle.log_checker.specs.declared.verdict.LogVerdict.TheVariants as verdict
@@ -38,13 +33,8 @@ bound_task p (bound.AtMost most) = Free
 
 -- these are the formulas of the instance, over its gaps and the tables of its trains, and that of the task is within the sizes
 pub record AreFormulasOf (p : InstanceParts) (task : Task) (f : Formulas) : Type 0 where
-  pub gaps : GapLists
-  pub tables : List Table
-  pub are_gaps : AreGaps p gaps
-  pub are_tables : AreTables p tables
-  pub swept : AllZip (IsTableOf p) p.trains tables
-  pub few : HasFewOfAll p (task_variables p tables task) (sized_clauses p tables task gaps) (sized_units task)
-  pub formulas_are : f ≡ formulas_of p gaps tables
+  pub has : HasFormula p task
+  pub formulas_are : f ≡ formulas_of p has.gaps (map (table_of p) has.sweeps)
 
 -- the outcome shows what it tells, over the formulas of the instance
 pub record IsOutcomeOf (p : InstanceParts) (q : Question) (budget : ℕ) (o : Outcome) : Type 0 where
@@ -83,9 +73,9 @@ AreSameEnd one other = one ≢ Err Memory → other ≢ Err Memory → one ≡ o
 
 -- of two searches for one answer, with any budgets, both are refused alike for size or none is
 abbrev pub SearchesEndAlike : InstanceParts → Type 0
-SearchesEndAlike p = IsInstance p → (q : Question) (budget budget' : ℕ) (refusal : EncodeRefusal) (other : Result Outcome EncodeRefusal) → refusal ≢ Memory → other ≢ Err Memory →
+SearchesEndAlike p = (q : Question) (budget budget' : ℕ) (refusal : EncodeRefusal) (other : Result Outcome EncodeRefusal) → refusal ≢ Memory → other ≢ Err Memory →
     IsSearchEnd p q budget (Err refusal) → IsSearchEnd p q budget' other → other ≡ Err refusal
 
 -- two checks of one refutation end alike
 abbrev pub ChecksAreOne : InstanceParts → Type 0
-ChecksAreOne p = IsInstance p → (r : Refutation) (one other : Result LogVerdict EncodeRefusal) → IsCheckEnd p r one → IsCheckEnd p r other → AreSameEnd one other
+ChecksAreOne p = (r : Refutation) (one other : Result LogVerdict EncodeRefusal) → IsCheckEnd p r one → IsCheckEnd p r other → AreSameEnd one other

@@ -1,13 +1,18 @@
 -- A search for the fewest borders, between two calls of its solver.
-use Rattle.std.specs.Prelude.{◌≡◌, ◌+◌, ℕ, List, [], ◌∷◌, map, length, Option}
+use Rattle.std.specs.Prelude.{◌≡◌, ◌<◌, ◌≤◌, ◌+◌, ◌-◌, ℕ, List, [], ◌∷◌, map, length, true, Option, Some, slice_get}
+use Rattle.border_counter.specs.Counter.{at_least_var, at_least_lit, not_at_least_lit}
+use Rattle.clause_encoder.specs.Maps.{MapParts}
+use Rattle.clause_encoder.specs.declared.task.Task.TheVariants.{Free}
 use Rattle.derivation_log.specs.declared.step.Bound.TheVariants.{AtMost}
 use Rattle.cell_net.specs.declared.ids.CandidateId.{CandidateId}
 use Rattle.cell_net.specs.declared.parts.InstanceParts.{InstanceParts}
 use Rattle.cell_net.specs.declared.plans.Plan.{Plan}
-use Rattle.sat_core.specs.Search.{Event, search_of, AreNext, log_of, units_of, adds_in}
-use Rattle.sat_core.specs.Derivation.{DerivedStep, EndsInEmptyClause}
+use Rattle.sat_core.specs.Search.{log_of, units_of, adds_in}
 use Rattle.solver_face.specs.Solving.{Solving, IsSound}
+use Rattle.task_driver.specs.BoundUnits.{AreUnitsOf, bounds_in}
 use Rattle.task_driver.specs.Questions.{of_fewest, Formulas}
+use Rattle.task_driver.specs.TaskEnds.{AreFormulasOf}
+use Rattle.task_driver.specs.declared.units.BoundUnit.{BoundUnit}
 use Rattle.task_driver.specs.Sessions.{Entry, bounds_of, BeginsWithBound, session_events, AreLater, IsBest}
 
 -- the last of the numbers, or that one
@@ -29,11 +34,18 @@ pub record IsUnderway (f : Formulas) (p : InstanceParts) (budget : ℕ) (s : Sol
   pub spent : adds_in (log_of s.events) + left ≡ budget
   pub best_is : IsBest p (AtMost (length p.candidates)) (map AtMost bounds) best
 
--- the log refutes the free formula with the units of the bounds, which fall
-pub record IsRefutedSearch (f : Formulas) (p : InstanceParts) (log : List DerivedStep) (bounds : List ℕ) : Type 0 where
-  pub events : List Event
-  pub log_is : log ≡ log_of events
-  pub units_are : units_of events ≡ map f.unit bounds
-  pub search : AreNext (search_of f.free_vars f.free) events
-  pub refuted : EndsInEmptyClause log
-  pub falling : AreLater p of_fewest (AtMost (length p.candidates)) (map AtMost bounds)
+-- the map has the counter of the formulas: its literals, and the places of its order clauses
+pub record HasCounter (p : InstanceParts) (f : Formulas) (m : MapParts) : Type 0 where
+  pub counts : m.counts ≡ true
+  pub candidates : m.candidates ≡ length p.candidates
+  pub unit : (k : ℕ) → f.unit k ≡ not_at_least_lit m.first_of_count m.candidates (k + 1)
+  pub after : 1 ≤ m.first_of_count
+  pub before : (k : ℕ) → k < length p.candidates → at_least_var m.first_of_count m.candidates (k + 1) ≤ f.free_vars
+  pub order : (j : ℕ) → 1 ≤ j → j < length p.candidates → slice_get f.free (m.before_order + j - 1) ≡ Some (not_at_least_lit m.first_of_count m.candidates (j + 1) ∷ at_least_lit m.first_of_count m.candidates j ∷ [])
+
+-- a search over the formulas of the instance, whose solver was given these units
+pub record IsSearching (f : Formulas) (p : InstanceParts) (m : MapParts) (budget : ℕ) (s : Solving) (left : ℕ) (units : List BoundUnit) (best : Option (List CandidateId × Plan)) : Type 0 where
+  pub formulas : AreFormulasOf p Free f
+  pub counter : HasCounter p f m
+  pub underway : IsUnderway f p budget s left (bounds_in units) best
+  pub numbered : AreUnitsOf f.unit (length f.free) s.events units

@@ -2,6 +2,8 @@
 ghost use Rattle.cell_net.specs.declared.parts.InstanceParts.{InstanceParts};
 ghost use Rattle.task_driver.specs.TaskEnds.{OutcomesAreTrue, RefutationsAreTrue, SearchesEndAlike, ChecksAreOne};
 
+use formula_laws::formulas_are_one;
+use log_checker::verdicts_are_one;
 use plan_values::refuted_tasks_are_impossible;
 use sat_core::refutations_are_sound;
 
@@ -17,12 +19,15 @@ pub fn outcomes_are_true()
 
 /// Of two searches for one answer both are refused alike for their size, or none is; but for want of memory.
 pub fn searches_end_alike()
-    requires { (p : InstanceParts) → SearchesEndAlike p }
     ensures { (p : InstanceParts) → SearchesEndAlike p }
-{}
+{
+    formulas_are_one();
+}
 
 /// Two checks of one refutation end alike, but for want of memory.
 pub fn checks_are_one()
-    requires { (p : InstanceParts) → ChecksAreOne p }
     ensures { (p : InstanceParts) → ChecksAreOne p }
-{}
+{
+    formulas_are_one();
+    verdicts_are_one();
+}

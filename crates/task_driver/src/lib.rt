@@ -3,8 +3,11 @@
 
 mod checking;
 mod fewest;
+mod formulas;
 mod given;
 mod laws;
+mod once;
+mod units;
 
 pub use checking::check;
 pub use fewest::optimise;

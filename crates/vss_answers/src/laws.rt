@@ -1,16 +1,12 @@
 //! The laws of answers, for the proofs of callers. The calls do nothing.
 
 ghost use Rattle.vss_answers.specs.Laws.{AnswersAreOne, AnswersAreTrue};
-ghost use Rattle.cell_net.specs.declared.parts.InstanceParts.{InstanceParts};
-ghost use Rattle.task_driver.specs.TaskEnds.{SearchesEndAlike, ChecksAreOne};
 
 use plan_checker::first_breaches_are_one;
 use task_driver::{checks_are_one, outcomes_are_true, searches_end_alike};
 
 /// One answer to a job is right, but for what a search finds; and whether that is refused for its size is one answer, too.
 pub fn answers_are_one()
-    requires one { (p : InstanceParts) → SearchesEndAlike p }
-    requires two { (p : InstanceParts) → ChecksAreOne p }
     ensures { AnswersAreOne }
 {
     first_breaches_are_one();

@@ -4,8 +4,6 @@ ghost use Rattle.std.specs.Prelude.{◌≡◌, ◌≤◌, ◌↔◌, Err, IsErrO
 ghost use Rattle.vss_io.specs.Faults.{Rose};
 ghost use Rattle.vss_io.specs.Reading.{Keeps};
 ghost use Rattle.vss_stages.specs.Stages.{Ends as EndsStage};
-ghost use Rattle.cell_net.specs.declared.parts.InstanceParts.{InstanceParts};
-ghost use Rattle.task_driver.specs.TaskEnds.{SearchesEndAlike, ChecksAreOne};
 ghost use Rattle.vss_words.specs.Commands.{command, NamesTask};
 ghost use Rattle.vss_jobs.specs.Asked.{files_asked_for};
 ghost use Rattle.vss_run.specs.Call.{IsRight, CallEnds, AreDecisive, ReadsBack};
@@ -28,8 +26,6 @@ pub fn run<S: Solver, H: Shelf, K: Sink>(
     shelf: &mut H,
     out: &mut K,
 ) -> Status
-    requires one { (p : InstanceParts) → SearchesEndAlike p }
-    requires two { (p : InstanceParts) → ChecksAreOne p }
     ensures ends { CallEnds (map string_bytes words.now) (H.shown shelf.old) (H.shown shelf.new) (K.shown out.old) (K.shown out.new) result }
     ensures decisive { AreDecisive (map string_bytes words.now) (H.shown shelf.old) (H.shown shelf.new) (K.shown out.old) (K.shown out.new) result }
     ensures read_back { ReadsBack (map string_bytes words.now) (H.shown shelf.old) (H.shown shelf.new) (K.shown out.old) (K.shown out.new) result }

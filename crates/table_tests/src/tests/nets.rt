@@ -17,12 +17,13 @@ pub(super) type Cells<'a> = &'a [(u32, u32, u32)];
 /// Each join is of the high end of a cell with the low end of another one.
 pub(super) type Joins<'a> = &'a [(u32, u32)];
 
-/// Cells and their joins, the nodes of the candidates, and trains.
+/// Cells and their joins, the nodes of the candidates, the cells of stations, and trains.
 #[derive(Drop)]
 pub(super) struct Net {
     pub cells: Vec<CellSpec>,
     pub joins: Vec<JoinSpec>,
     pub candidates: Vec<NodeId>,
+    pub stations: Items<Items<CellId>>,
     pub trains: Items<TrainSpec>,
 }
 
@@ -35,6 +36,7 @@ pub(super) fn net_of(alloc: Global, cells: Cells, candidates: &[u32]) -> Result<
             .collect(alloc)?,
         joins: Vec::new(alloc),
         candidates: candidates.iter().map(|&node| NodeId(node)).collect(alloc)?,
+        stations: Items::new(alloc),
         trains: Items::new(alloc),
     })
 }
@@ -85,6 +87,7 @@ pub(super) fn built(rt: &impl Abort, alloc: Global, net: Net) -> Result<Instance
         cells,
         joins,
         candidates,
+        stations,
         trains,
     } = net;
     let parts = InstanceParts {
@@ -94,13 +97,14 @@ pub(super) fn built(rt: &impl Abort, alloc: Global, net: Net) -> Result<Instance
         joins: Items::from_vec(joins),
         candidates: Items::from_vec(candidates),
         kept: Items::new(alloc),
-        stations: Items::new(alloc),
+        stations,
         trains,
         steps: 3,
     };
     assert!(rt; parts.cells.len() < 1000);
     assert!(rt; parts.joins.len() < 1000);
     assert!(rt; parts.candidates.len() < 100);
+    assert!(rt; parts.stations.len() < 100);
     assert!(rt; parts.trains.len() < 100);
     assert!(rt; have_few_stops(parts.trains.as_slice()));
     Ok(Instance::build(alloc, parts)?)

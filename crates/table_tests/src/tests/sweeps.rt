@@ -1,6 +1,6 @@
 //! The sweeps of a train, against lists that are grown plainly; and what goes on from what.
 
-ghost use Rattle.std.specs.Prelude.{◌<◌, length};
+ghost use Rattle.std.specs.Prelude.{◌<◌, ◌≤◌, length};
 
 use super::nets::{Cells, Joins, Net, built, cell_of, join_of, net_of, train_of};
 use super::plain::plain_sweeps;
@@ -128,16 +128,34 @@ fn goes_on(before: &[DirCell], after: &[DirCell]) -> bool {
 #[test]
 fn more_than_50000_sweeps_are_refused(rt: HostRuntime) -> Result<(), Fail> {
     let alloc = rt.alloc();
-    let mut net = net_of(alloc, &[], &[])?;
-    for place in 0..60 {
-        push_double(&mut net, place)?;
-    }
-    net.trains.push(train_of(alloc, 40, 1))?;
-    let inst = built(&rt, alloc, net)?;
+    let inst = doubled(&rt, alloc, 60, 40)?;
     assert!(&rt; 0 < inst.train_count());
     let refusal = SweepTable::build(alloc, &inst, TrainId(0)).err();
     assert!(&rt; refusal == Some(TableRefusal::TooManySweeps));
     Ok(())
+}
+
+/// As many ways as there are end too early, two to the fortieth, and none of them is tried.
+#[test]
+fn no_path_grows_where_none_is_long_enough(rt: HostRuntime) -> Result<(), Fail> {
+    let alloc = rt.alloc();
+    let inst = doubled(&rt, alloc, 40, 41)?;
+    assert!(&rt; 0 < inst.train_count());
+    let table = SweepTable::build(alloc, &inst, TrainId(0))?;
+    assert_eq!(&rt; table.len(), 0);
+    Ok(())
+}
+
+/// So many places in a row with two cells side by side at each, and a train of so many cells.
+fn doubled(rt: &impl Abort, alloc: Global, places: u32, length: u32) -> Result<Instance, Fail>
+    requires { places ≤ 60 }
+{
+    let mut net = net_of(alloc, &[], &[])?;
+    for place in 0..places {
+        push_double(&mut net, place)?;
+    }
+    net.trains.push(train_of(alloc, length, 1))?;
+    built(rt, alloc, net)
 }
 
 /// Two cells side by side, joined with both cells before them.

@@ -9,7 +9,7 @@ use Rattle.timetable.specs.declared.parts.Timetable.{Timetable}
 use Rattle.discretise.specs.Grids.{IsGridOf}
 use Rattle.discretise.specs.Places.{candidates_on}
 use Rattle.discretise.specs.Refusals.{HasFewCandidates, HasFewCells, size_rules}
-use Rattle.discretise.specs.Rounding.{cells_of}
+use Rattle.discretise.specs.Rounding.{length_in_cells}
 use Rattle.discretise.specs.declared.refusal.CutFault.TheVariants.{TooManyCells, TooManyCandidates, TooManyTrains, TooManySteps}
 use Rattle.discretise.specs.declared.tracks.GridTrack.{GridTrack}
 use Rattle.discretise.specs.declared.ends.TrackEnd.{TrackEnd}
@@ -31,14 +31,14 @@ returns-then-not-has_few_cells-clause-refusal c =
     let t = c.args.timetable.now in
     let tracks : c.as_slice.result.now ≡ p.tracks = c.as_slice.ensures ∙ ap (λ (q : NetParts). q.tracks) c.parts.ensures.parts in
     told_place (size_rules p t) 0 TooManyCells Document 0 c.named.result c.named.ensures
-    (refl, λ few. let told = c.if-not-has_few_cells.ensures.1 (subst (λ (ts : List TrackPart). sum_by (λ x. cells_of t x.length_m) ts ≤ 1000) (sym tracks) few) in absurd cc)
+    (refl, λ few. let told = c.if-not-has_few_cells.ensures.1 (subst (λ (ts : List TrackPart). sum_by (λ x. length_in_cells t x.length_m) ts ≤ 1000) (sym tracks) few) in absurd cc)
 
 pub returns-then-count-clause-refusal : goal.returns-then-count-clause-refusal
 returns-then-count-clause-refusal c =
     let p = c.args.net.now in
     let t = c.args.timetable.now in
     let tracks : c.as_slice.result.now ≡ p.tracks = c.as_slice.ensures ∙ ap (λ (q : NetParts). q.tracks) c.parts.ensures.parts in
-    let cells : HasFewCells p t = subst (λ (ts : List TrackPart). sum_by (λ x. cells_of t x.length_m) ts ≤ 1000) tracks (c.if-not-has_few_cells.ensures.0 refl) in
+    let cells : HasFewCells p t = subst (λ (ts : List TrackPart). sum_by (λ x. length_in_cells t x.length_m) ts ≤ 1000) tracks (c.if-not-has_few_cells.ensures.0 refl) in
     let seen : length c.as_slice-seen.result.now ≡ length c.in-Ok.grid.candidates.items = ap length c.as_slice-seen.ensures.value in
     told_place (size_rules p t) 1 TooManyCandidates Document 0 c.named-then-count.result c.named-then-count.ensures
     (cells, (refl, λ few. let short = counted p t c.in-Ok.grid.tracks.items c.in-Ok.grid.ends.items c.in-Ok.grid.joints.items c.in-Ok.grid.candidates.items c.parts.ensures.rules c.in-Ok.ensures few in omega (arith, c.if-count.true)))
@@ -48,7 +48,7 @@ returns-then-trains-clause-refusal c =
     let p = c.args.net.now in
     let t = c.args.timetable.now in
     let tracks : c.as_slice.result.now ≡ p.tracks = c.as_slice.ensures ∙ ap (λ (q : NetParts). q.tracks) c.parts.ensures.parts in
-    let cells : HasFewCells p t = subst (λ (ts : List TrackPart). sum_by (λ x. cells_of t x.length_m) ts ≤ 1000) tracks (c.if-not-has_few_cells.ensures.0 refl) in
+    let cells : HasFewCells p t = subst (λ (ts : List TrackPart). sum_by (λ x. length_in_cells t x.length_m) ts ≤ 1000) tracks (c.if-not-has_few_cells.ensures.0 refl) in
     let seen : length c.as_slice-seen.result.now ≡ length c.in-Ok.grid.candidates.items = ap length c.as_slice-seen.ensures.value in
     let few : length c.in-Ok.grid.candidates.items ≤ 512 = omega (arith, c.if-count.false) in
     told_place (size_rules p t) 2 TooManyTrains Document 0 c.named-then-trains.result c.named-then-trains.ensures
@@ -59,7 +59,7 @@ returns-then-steps-from-clause-refusal c =
     let p = c.args.net.now in
     let t = c.args.timetable.now in
     let tracks : c.as_slice.result.now ≡ p.tracks = c.as_slice.ensures ∙ ap (λ (q : NetParts). q.tracks) c.parts.ensures.parts in
-    let cells : HasFewCells p t = subst (λ (ts : List TrackPart). sum_by (λ x. cells_of t x.length_m) ts ≤ 1000) tracks (c.if-not-has_few_cells.ensures.0 refl) in
+    let cells : HasFewCells p t = subst (λ (ts : List TrackPart). sum_by (λ x. length_in_cells t x.length_m) ts ≤ 1000) tracks (c.if-not-has_few_cells.ensures.0 refl) in
     let seen : length c.as_slice-seen.result.now ≡ length c.in-Ok.grid.candidates.items = ap length c.as_slice-seen.ensures.value in
     let few : length c.in-Ok.grid.candidates.items ≤ 512 = omega (arith, c.if-count.false) in
     told_place (size_rules p t) 3 TooManySteps Document 0 c.named-then-steps-from.result c.named-then-steps-from.ensures

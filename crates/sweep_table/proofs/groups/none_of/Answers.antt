@@ -2,12 +2,11 @@
 use Rattle.std.proofs.Common.{◌≡◌, ◌+◌, ◌∙◌, [], List, length, ap}
 use Rattle.std.proofs.lemmas.List.{length_push}
 use Rattle.std.proofs.lemmas.List.Elements.{All-push, All-same}
-use Rattle.sweep_table.specs.declared.ids.SweepId.{SweepId}
 use Rattle.sweep_table.proofs.groups.none_of.Goals as goal
 
 pub loop-preserved : goal.loop-preserved
-loop-preserved c =
+loop-preserved g c =
     let more = c.in_ok-push.ensures.items in (
-      ap length more ∙ (length_push c.loop.groups.items c.new.result ∙ ap (λ n. n + 1) c.loop.invariant.0),
-      All-same (λ (g : List SweepId). g ≡ []) _ _ more (All-push (λ (g : List SweepId). g ≡ []) _ _ c.loop.invariant.1 c.new.ensures),
+      ap length more ∙ (length_push c.loop.lists.items c.new.result ∙ ap (λ n. n + 1) c.loop.invariant.0),
+      All-same (λ g. g ≡ []) _ _ more (All-push (λ g. g ≡ []) _ _ c.loop.invariant.1 c.new.ensures),
     )

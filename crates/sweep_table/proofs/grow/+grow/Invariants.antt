@@ -10,4 +10,4 @@ decreases-grow l = l.more
 -- the path is as it was, and the sweeps over the next ones so far are kept, not too many
 abbrev pub invariant-loop-place : goal.invariant-loop-place
 invariant-loop-place l = (l.path.items ≡ l.fn.path.items) × (length l.sweeps ≤ 50000) × (l.sweeps ≡ l.fn.sweeps ++
-    flat_map (branch l.growth.inst.now l.growth.train l.growth.after.now l.count (grown l.growth.inst.now l.growth.train l.growth.after.now l.count (l.more - 1)) l.fn.path.items) (take l.place l.next))
+    flat_map (branch l.growth.inst.now l.growth.train l.growth.after.now l.growth.count (grown l.growth.inst.now l.growth.train l.growth.after.now l.growth.count (l.more - 1)) l.fn.path.items) (take l.place l.next))

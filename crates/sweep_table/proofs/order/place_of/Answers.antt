@@ -2,7 +2,7 @@
 use Rattle.std.proofs.Common.{◌≡◌, ◌<◌, ◌+◌, ◌-◌, ◌/◌, ap, ◌∙◌, refl, arith, subst}
 use Rattle.std.specs.Prelude.{Some, slice_get}
 use Rattle.std.proofs.lemmas.Option.{slice_get-get_or}
-use Rattle.sweep_table.specs.Order.{IsBefore}
+use Rattle.sweep_table.specs.Order.{IsSweepBefore}
 use Rattle.sweep_table.proofs.OrderLaws.{below_place, from_place}
 use Rattle.sweep_table.proofs.order.place_of.Goals as goal
 
@@ -20,7 +20,7 @@ loop-low-preserved c = (
   omega arith,
   λ q at.
       let old = c.loop-low.invariant.1 q at in
-      (old.0, from_place _ _ q _ _ c.requires.order c.row.ensures.value at (λ (before : IsBefore c.row.result.now c.args.cells.now). absurd (cc (c.if-is_before.ensures.1 before)))),
+      (old.0, from_place _ _ q _ _ c.requires.order c.row.ensures.value at (λ (before : IsSweepBefore c.row.result.now c.args.cells.now). absurd (cc (c.if-is_before.ensures.1 before)))),
 )
 
 pub returns-clause-within : goal.returns-clause-within

@@ -1,0 +1,2 @@
+-- What the contracts of `formula_laws` cite, each file a subject.
+pub mod Laws

@@ -1,0 +1,8 @@
+-- The lemmas of `watch_solver`, each file a subject.
+pub mod LiveLemmas
+pub mod LubyLemmas
+pub mod RoundLemmas
+pub mod SearchLemmas
+pub mod SeatLemmas
+pub mod SolutionLemmas
+pub mod StateLemmas

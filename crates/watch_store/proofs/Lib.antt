@@ -1,0 +1,21 @@
+-- The lemmas and laws of `watch_store`, each file a subject.
+pub mod AddLemmas
+pub mod ChainLemmas
+pub mod ChooseLemmas
+pub mod CountLemmas
+pub mod EndLemmas
+pub mod FillLemmas
+pub mod FindLemmas
+pub mod FitLaws
+pub mod GuardLemmas
+pub mod LiveLaws
+pub mod LoopLemmas
+pub mod PairLemmas
+pub mod PlaceLemmas
+pub mod PropagationLemmas
+pub mod PushLemmas
+pub mod RelinkLemmas
+pub mod StepLemmas
+pub mod StoreLemmas
+pub mod WalkLemmas
+pub mod WatchingLemmas

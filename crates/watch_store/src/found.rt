@@ -1,0 +1,54 @@
+//! What a visit of one clause finds.
+ghost use Rattle.std.specs.Prelude.{◌≡◌, ◌≢◌, All, Contains, MatchOption, false};
+ghost use Rattle.sat_core.specs.Clauses.{negated, IsOver};
+ghost use Rattle.sat_core.specs.Hints.{is_known};
+ghost use Rattle.search_trail.specs.Trails.{known_of};
+ghost use Rattle.watch_store.specs.Walking.{OthersFalse, VisitTells};
+
+use sat_core::Lit;
+use search_trail::{Trail, Truth};
+
+/// What is to be done with a node whose watched literal became false.
+#[derive(Clone, Copy, Debug)]
+pub enum Visit {
+    /// The other watched literal is true.
+    Kept,
+    /// This literal isn't false and is to be watched in its place.
+    Moved(Lit),
+    /// The other watched literal is the only one that isn't false.
+    Forced,
+    /// All literals are false.
+    Conflict,
+}
+
+/// What a clause with a false watched literal tells, by its other watched literal, which isn't true.
+pub(crate) fn read_clause(trail: &Trail, lits: &[Lit], partner: Lit) -> Visit
+    requires in_range { All (IsOver trail.now.vars) lits.now }
+    requires partner { IsOver trail.now.vars partner }
+    ensures { VisitTells (known_of trail.now.entries) lits.now partner result }
+{
+    match trail.value(partner) {
+        Truth::Yes => Visit::Kept,
+        Truth::Open => match replacement(trail, lits, partner) {
+            Some(lit) => Visit::Moved(lit),
+            None => Visit::Forced,
+        },
+        Truth::No => match replacement(trail, lits, partner) {
+            Some(lit) => Visit::Moved(lit),
+            None => Visit::Conflict,
+        },
+    }
+}
+
+/// The first literal that isn't false, besides the other watched one.
+pub(crate) fn replacement(trail: &Trail, lits: &[Lit], partner: Lit) -> Option<Lit>
+    requires { All (IsOver trail.now.vars) lits.now }
+    ensures { MatchOption result (OthersFalse (known_of trail.now.entries) lits.now partner) (λ lit. Contains lits.now lit × (lit ≢ partner) × (is_known (known_of trail.now.entries) (negated lit) ≡ false)) }
+{
+    for lit in lits {
+        if *lit != partner && !trail.is_true(lit.negated()) {
+            return Some(*lit);
+        }
+    }
+    None
+}
