@@ -55,7 +55,7 @@ one_verdict p borders plan law (verdict.Breach b) (verdict.Breach c) one other =
 one_judged : (setting : Setting) (borders : List CandidateId) (plan : Plan) → HasOneFirstBreach setting.parts borders plan → (r s : Said) → IsJudged setting borders plan r → IsJudged setting borders plan s → r ≡ s
 one_judged setting borders plan law r s one other =
     let tell : Verdict → Said = λ v. Ok (judged_answer setting.labels borders v) in
-    one.told ∙ (ap tell (one_verdict setting.parts borders plan law one.verdict other.verdict one.is other.is) ∙ sym other.told)
+    one.told ∙ (ap tell (one_verdict setting.parts borders plan law one.found other.found one.is other.is) ∙ sym other.told)
 
 one_checked : (setting : Setting) (refutation : Refutation) (line : ℕ) → ChecksAreOne setting.parts → (r s : Said) → IsSettled r → IsSettled s
     → HandsOn (CheckEnds setting refutation) (checked_answer refutation line) size_stop r → HandsOn (CheckEnds setting refutation) (checked_answer refutation line) size_stop s → r ≡ s

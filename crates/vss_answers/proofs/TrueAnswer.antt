@@ -55,7 +55,7 @@ true_tried law setting budget (Err why) ends = tt
 
 pub true_answer : TasksAreTrue → (job : Job) (r : Said) → IsRightAnswer job r → IsTrueAnswer job r
 true_answer law (judging setting borders plan) r is =
-    subst (λ (x : Said). IsTrueAnswer (judging setting borders plan) x) (sym is.told) (true_judged setting borders plan is.verdict)
+    subst (λ (x : Said). IsTrueAnswer (judging setting borders plan) x) (sym is.told) (true_judged setting borders plan is.found)
 true_answer law (checking setting refutation line) r is =
     subst (λ (x : Said). IsTrueAnswer (checking setting refutation line) x) (sym is.end_is) (true_checked law setting refutation line is.answer is.reads_so)
 true_answer law (searching setting asks budget) r is =

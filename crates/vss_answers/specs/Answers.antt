@@ -62,9 +62,9 @@ tried_answer setting outcome = answer.Tried outcome setting.parts
 
 -- the judge's verdict on the plan, lawful or its first breach, is told
 pub record IsJudged (setting : Setting) (borders : List CandidateId) (plan : Plan) (end : Result Answer (Stop Refusal)) : Type 0 where
-  pub verdict : Verdict
-  pub is : IsPlanVerdict setting.parts borders plan verdict
-  pub told : end ≡ Ok (judged_answer setting.labels borders verdict)
+  pub found : Verdict
+  pub is : IsPlanVerdict setting.parts borders plan found
+  pub told : end ≡ Ok (judged_answer setting.labels borders found)
 
 -- the texts are told
 abbrev pub IsMade : List ℕ → List ℕ → Result Answer (Stop Refusal) → Type 0

@@ -153,7 +153,7 @@ designs_are_lawful law words files after documents report o borders plan asked h
       hands_on = hands_value (IsDesignReading setting.labels text) (design_job setting) report_stop (borders, plan) read;
     }))) in
     goes_on (judging setting borders plan) job (record {
-      verdict = verdict.Lawful;
+      found = verdict.Lawful;
       is = design_lawful holds.ends.ends_so.formulas setting.parts holds.question holds.budget o borders plan holds.ends.ends_so.shows has;
       told = refl;
     })

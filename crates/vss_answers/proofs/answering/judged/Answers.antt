@@ -5,7 +5,7 @@ use Rattle.vss_answers.proofs.answering.judged.Goals as goal
 
 pub returns-in-Ok : goal.returns-in-Ok
 returns-in-Ok c = record {
-  verdict = c.in-Ok.verdict;
+  found = c.in-Ok.verdict;
   is = c.in-Ok.ensures.verdict;
   told = ap (λ (a : Answer). Ok a) c.answer_of.ensures;
 }
