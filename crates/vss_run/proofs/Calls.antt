@@ -6,6 +6,8 @@ use Rattle.vss_stages.specs.Stages.{Then, goes_on, stops, Ends as EndsStage, IsS
 use Rattle.vss_stages.specs.declared.stop.Stop.{Stop}
 use Rattle.vss_stages.specs.declared.stop.Stop.TheVariants as stop
 use Rattle.vss_stages.proofs.StageLaws.{then_maps}
+use Rattle.vss_words.specs.Commands.{NamesTask}
+use Rattle.vss_jobs.proofs.AskedNames.{names_task}
 use Rattle.vss_jobs.specs.Jobs.{IsJob}
 use Rattle.vss_jobs.specs.Laws.{JobsAreOne}
 use Rattle.vss_jobs.specs.Readings.{Job}
@@ -109,6 +111,11 @@ stops_alike : (why since : Stop Refusal) → why ≡ since → (r s : Result Ans
 stops_alike why since same r s is has =
     subst (λ (x : Result Answer (Stop Refusal)). AreToldAlike x s) (sym is)
     (subst (λ (y : Result Answer (Stop Refusal)). AreToldAlike (Err why) y) (sym has) (ap answer_err same))
+
+-- a job is made only where the first word names a task
+pub named_by_job : (words : List (List ℕ)) (files after : Files) (job : Job) → IsJob words files after (Ok job) → NamesTask words
+named_by_job words files after job (goes_on asked is ends) = names_task words asked is
+named_by_job words files after job (stops why is same) = absurd (not_stopped job why same)
 
 -- any two that are right to say are alike
 right_alike : JobsAreOne → AnswersAreOne → (words : List (List ℕ)) (files after : Files) → IsTrue files.tells → (r s : Result Answer (Stop Refusal)) → IsSettled r → IsSettled s
