@@ -23,7 +23,6 @@ pub fn print_proved<K: Sink>(bound: Bound, out: &mut K) -> Result<(), SinkFault>
 }
 
 /// Prints at which line of the report the log goes wrong, and why.
-#[tactic(auto, unfolding(crate::specs::CheckTexts::not_proved_text))]
 pub fn print_not_proved<'a, K: Sink>(line: u64, why: &'a [u8], out: &mut K) -> Result<(), SinkFault>
     ensures { Prints (K.shown out.old) (K.shown out.new) (not_proved_text line why.now) result }
 {

@@ -10,8 +10,8 @@ returns-in-Ok g c =
     hands_value (SearchEnds (setting_of c.args.scene) (question_of c.args.scene.inst c.args.search) c.args.budget) (found_answer (setting_of c.args.scene)) size_stop c.in-Ok.outcome
     (record { is_instance = c.search_end.ensures.instance; ends_so = c.in-Ok.ensures.ends })
 
-pub returns-in-Err : goal.returns-in-Err
-returns-in-Err g c =
+pub returns : goal.returns
+returns g c =
     rw c.stop_of_size.ensures
     (stops_by (IsRightAnswer (searching (setting_of c.args.scene) c.args.search c.args.budget)) (size_stop c.in-Err.why)
     (hands_refusal (SearchEnds (setting_of c.args.scene) (question_of c.args.scene.inst c.args.search) c.args.budget) (found_answer (setting_of c.args.scene)) size_stop c.in-Err.why

@@ -11,8 +11,8 @@ returns-in-Ok g c =
     hands_value (SearchEnds (setting_of c.args.scene) of_fewest c.args.budget) (tried_answer (setting_of c.args.scene)) size_stop c.in-Ok.outcome
     (record { is_instance = c.search_end.ensures.instance; ends_so = c.in-Ok.ensures.ends })
 
-pub returns-in-Err : goal.returns-in-Err
-returns-in-Err g c =
+pub returns : goal.returns
+returns g c =
     rw c.stop_of_size.ensures
     (stops_by (IsRightAnswer (trying (setting_of c.args.scene) c.args.budget)) (size_stop c.in-Err.why)
     (hands_refusal (SearchEnds (setting_of c.args.scene) of_fewest c.args.budget) (tried_answer (setting_of c.args.scene)) size_stop c.in-Err.why
