@@ -61,7 +61,7 @@ one_checked : (setting : Setting) (refutation : Refutation) (line : ℕ) → Che
     → HandsOn (CheckEnds setting refutation) (checked_answer refutation line) size_stop r → HandsOn (CheckEnds setting refutation) (checked_answer refutation line) size_stop s → r ≡ s
 one_checked setting refutation line law =
     handed_alike (CheckEnds setting refutation) (checked_answer refutation line) size_stop Memory refl
-    (λ r s one other is has. ap (handed (checked_answer refutation line) size_stop) (law is.is_instance refutation r s is.ends_so has.ends_so one other))
+    (λ r s one other is has. ap (handed (checked_answer refutation line) size_stop) (law refutation r s is.ends_so has.ends_so one other))
 
 -- both outcomes of a search are alike, and both refusals
 ends_alike : (made : Outcome → Answer) → ((o u : Outcome) → AreToldAlike (Ok (made o)) (Ok (made u))) → (setting : Setting) (question : Question) (budget : ℕ) → SearchesEndAlike setting.parts
@@ -69,10 +69,10 @@ ends_alike : (made : Outcome → Answer) → ((o u : Outcome) → AreToldAlike (
     → AreToldAlike (handed made size_stop one) (handed made size_stop other)
 ends_alike made alike setting question budget law (Ok o) (Ok u) m n is has = alike o u
 ends_alike made alike setting question budget law (Err why) other m n is has =
-    let same : other ≡ Err why = law is.is_instance question budget budget why other (λ e. m (ap (λ (w : EncodeRefusal). Err w) e)) n is.ends_so has.ends_so in
+    let same : other ≡ Err why = law question budget budget why other (λ e. m (ap (λ (w : EncodeRefusal). Err w) e)) n is.ends_so has.ends_so in
     alike_of _ _ (ap (handed made size_stop) (sym same))
 ends_alike made alike setting question budget law (Ok o) (Err why) m n is has =
-    let same : Ok o ≡ Err why = law is.is_instance question budget budget why (Ok o) (λ e. n (ap (λ (w : EncodeRefusal). Err w) e)) m has.ends_so is.ends_so in
+    let same : Ok o ≡ Err why = law question budget budget why (Ok o) (λ e. n (ap (λ (w : EncodeRefusal). Err w) e)) m has.ends_so is.ends_so in
     alike_of _ _ (ap (handed made size_stop) same)
 
 one_search : (made : Outcome → Answer) → ((o u : Outcome) → AreToldAlike (Ok (made o)) (Ok (made u))) → (setting : Setting) (question : Question) (budget : ℕ) → SearchesEndAlike setting.parts
