@@ -1,3 +1,2 @@
 -- Laws of calls.
 pub mod Calls
-pub mod ReadBack
