@@ -31,7 +31,7 @@ any : CandidateId
 any = record { 0 = 0 }
 
 -- there are no more borders than candidates
-few_borders : (p : InstanceParts) (xs : List CandidateId) → IsBorderSet p xs → length xs ≤ length p.candidates
+pub few_borders : (p : InstanceParts) (xs : List CandidateId) → IsBorderSet p xs → length xs ≤ length p.candidates
 few_borders p [] set = omega arith
 few_borders p (x ∷ xs) set =
     let last = length xs in

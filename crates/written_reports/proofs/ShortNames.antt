@@ -1,6 +1,6 @@
 -- The numbers in the names of a scene's cells and places have nine digits at most.
 use Rattle.std.proofs.Common.{◌≡◌, ℕ, ◌+◌, ◌-◌, ◌*◌, ◌<◌, ◌≤◌, Bool, true, false, List, [], ◌∷◌, ◌++◌, length, get_or, map, refl, sym, ap, subst, ◌∙◌, arith, length-append}
-use Rattle.std.specs.Prelude.{All}
+use Rattle.std.specs.Prelude.{All, if◌then◌else◌}
 use Rattle.std.specs.List.{flat_map, range_with_len}
 use Rattle.std.proofs.lemmas.List.{length-map}
 use Rattle.std.proofs.lemmas.List.Elements.{All-append, All-map, All-nil}
@@ -47,7 +47,7 @@ short_cells (g ∷ gs) few =
 
 short_metres : (cut step : ℕ) → cut < 1000 → step ≤ 100000 → IsShort ((cut + 1) * step)
 short_metres cut step few small =
-    let product : (cut + 1) * step ≤ 1000 * 100000 = mul-le (omega arith) small in
+    let product : (cut + 1) * step ≤ 1000 * 100000 = mul-le (cut + 1) step 1000 100000 (omega arith) small in
     omega (arith, product)
 
 short_cuts_in : (t : Timetable) (g : GridTrack) → t.space_step_m ≤ 100000 → g.count ≤ 1000 → All IsShortPlace (labels_of_cuts t g)
