@@ -3,11 +3,15 @@
 
 mod asking;
 mod breaches;
+mod cases;
+mod checking;
 mod documents;
 mod judging;
 mod lengths;
 mod networks;
 mod refusals;
 mod reports;
+mod searching;
+mod starved;
 mod words;
 mod writing;

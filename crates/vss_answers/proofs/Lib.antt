@@ -2,3 +2,4 @@
 pub mod Nothing
 pub mod OneAnswer
 pub mod Pieces
+pub mod TrueAnswer

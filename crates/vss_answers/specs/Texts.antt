@@ -1,9 +1,12 @@
--- The lines that a run prints.
+-- What a call prints.
 use Rattle.std.specs.Prelude.{ℕ, List, [], ◌∷◌, ◌++◌, codes, decimal, Result, Ok, Err}
 use Rattle.vss_io.specs.Line.{flat, line}
 use Rattle.vss_report.specs.Names.{train_name}
 use Rattle.vss_answers.specs.PrintedNames.{cell_name, place_name}
+use Rattle.vss_report.specs.Outcomes.{report_text}
+use Rattle.vss_answers.specs.CheckTexts.{step_fault_word, proved_text, not_proved_text}
 use Rattle.vss_answers.specs.RefusalTexts.{refusal_text}
+use Rattle.case_texts.specs.Summaries.{summary_text}
 use Rattle.vss_stages.specs.declared.input.Input.{Input}
 use Rattle.vss_stages.specs.declared.input.Input.TheVariants.{Network, Timetable, Report}
 use Rattle.vss_stages.specs.declared.stop.Stop.{Stop}
@@ -47,10 +50,16 @@ breach_text labels (kind.Late train step) = train_text labels (codes "late") tra
 breach_text labels (kind.Stop train stop) = train_text labels (codes "stop") train stop
 breach_text labels (kind.Apart a b step e f) = apart_text labels a b step e f
 
--- the line of an answer
+-- the text of an answer
 unfoldable pub answer_text : Answer → List ℕ
 answer_text (answer.Lawful borders) = line (flat (codes "lawful " ∷ decimal borders ∷ []))
 answer_text (answer.Breach breach labels) = line (breach_text labels breach)
+answer_text (answer.Proved bound) = proved_text bound
+answer_text (answer.NotProved at fault) = not_proved_text at (step_fault_word fault)
+answer_text (answer.NoEmptyClause at) = not_proved_text at (codes "NoEmptyClause")
+answer_text (answer.Found outcome labels) = report_text labels outcome
+answer_text (answer.Made network timetable) = network ++ timetable
+answer_text (answer.Tried outcome inst) = summary_text inst outcome
 
 -- the line of a stop; for want of memory nothing is said
 unfoldable pub stop_text : Stop Refusal → List ℕ

@@ -2,12 +2,13 @@
 
 ghost use Rattle.std.specs.Prelude.{◌≡◌};
 ghost use Rattle.vss_io.specs.Written.{Prints};
-ghost use Rattle.vss_answers.specs.RefusalTexts.{refused_line, network_text, timetable_text, grid_text, report_text, refusal_text};
+ghost use Rattle.vss_answers.specs.RefusalTexts.{refused_line, network_refusal_text, timetable_refusal_text, grid_refusal_text, report_refusal_text, sizes_refusal_text, refusal_text};
 
 use crate::refusal_words::{
     word_of_cut_fault, word_of_list, word_of_net_fault, word_of_net_member, word_of_time_fault,
     word_of_time_member,
 };
+use clause_encoder::EncodeRefusal;
 use discretise::CutRefusal;
 use itoa::Buffer;
 use net_reader::ReadRefusal;
@@ -25,11 +26,12 @@ pub fn print_refusal<K: Sink>(refusal: &Refusal, out: &mut K) -> Result<(), Sink
         Refusal::Timetable(why) => print_timetable(*why, out),
         Refusal::Grid(why) => print_grid(*why, out),
         Refusal::Report(fault) => print_report(*fault, out),
+        Refusal::Sizes(why) => print_sizes(*why, out),
     }
 }
 
 fn print_network<K: Sink>(why: ReadRefusal, out: &mut K) -> Result<(), SinkFault>
-    ensures { Prints (K.shown out.old) (K.shown out.new) (network_text why) result }
+    ensures { Prints (K.shown out.old) (K.shown out.new) (network_refusal_text why) result }
 {
     match why {
         ReadRefusal::NotJson => print_refused(b"network", b"NotJson", b"document", 0, out),
@@ -57,7 +59,7 @@ fn print_network<K: Sink>(why: ReadRefusal, out: &mut K) -> Result<(), SinkFault
 }
 
 fn print_timetable<K: Sink>(why: TimeRefusal, out: &mut K) -> Result<(), SinkFault>
-    ensures { Prints (K.shown out.old) (K.shown out.new) (timetable_text why) result }
+    ensures { Prints (K.shown out.old) (K.shown out.new) (timetable_refusal_text why) result }
 {
     match why {
         TimeRefusal::NotJson => print_refused(b"timetable", b"NotJson", b"document", 0, out),
@@ -82,7 +84,7 @@ fn print_timetable<K: Sink>(why: TimeRefusal, out: &mut K) -> Result<(), SinkFau
 }
 
 fn print_grid<K: Sink>(why: CutRefusal, out: &mut K) -> Result<(), SinkFault>
-    ensures { Prints (K.shown out.old) (K.shown out.new) (grid_text why) result }
+    ensures { Prints (K.shown out.old) (K.shown out.new) (grid_refusal_text why) result }
 {
     match why {
         CutRefusal::Named { kind, spot } => print_refused(
@@ -97,7 +99,7 @@ fn print_grid<K: Sink>(why: CutRefusal, out: &mut K) -> Result<(), SinkFault>
 }
 
 fn print_report<K: Sink>(fault: ReportFault, out: &mut K) -> Result<(), SinkFault>
-    ensures { Prints (K.shown out.old) (K.shown out.new) (report_text fault) result }
+    ensures { Prints (K.shown out.old) (K.shown out.new) (report_refusal_text fault) result }
 {
     match fault {
         ReportFault::BadLine(line) => print_refused(b"report", b"BadLine", b"lines", line, out),
@@ -106,6 +108,29 @@ fn print_report<K: Sink>(fault: ReportFault, out: &mut K) -> Result<(), SinkFaul
         }
         ReportFault::NoPart => print_refused(b"report", b"NoPart", b"document", 0, out),
         ReportFault::Memory => Ok(()),
+    }
+}
+
+fn print_sizes<K: Sink>(why: EncodeRefusal, out: &mut K) -> Result<(), SinkFault>
+    ensures { Prints (K.shown out.old) (K.shown out.new) (sizes_refusal_text why) result }
+{
+    match why {
+        EncodeRefusal::TooManySweeps(train) => {
+            print_refused(b"sizes", b"TooManySweeps", b"trains", train.0, out)
+        }
+        EncodeRefusal::TooManyWalks(section) => {
+            print_refused(b"sizes", b"TooManyWalks", b"sections", section.0, out)
+        }
+        EncodeRefusal::TooManyVariables => {
+            print_refused(b"sizes", b"TooManyVariables", b"document", 0, out)
+        }
+        EncodeRefusal::TooManyClauses => {
+            print_refused(b"sizes", b"TooManyClauses", b"document", 0, out)
+        }
+        EncodeRefusal::TooManyLiterals => {
+            print_refused(b"sizes", b"TooManyLiterals", b"document", 0, out)
+        }
+        EncodeRefusal::Memory => Ok(()),
     }
 }
 

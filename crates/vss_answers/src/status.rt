@@ -2,7 +2,7 @@
 
 ghost use Rattle.std.specs.Prelude.{◌≡◌};
 ghost use Rattle.std.specs.Process.{exit_status};
-ghost use Rattle.vss_answers.specs.Statuses.{number_of};
+ghost use Rattle.vss_answers.specs.Statuses.{status_number};
 
 use std::process::ExitCode;
 
@@ -34,14 +34,14 @@ pub enum Status {
 impl Status {
     /// The number of the status.
     pub fn number(self) -> u8
-        ensures { result ≡ number_of self }
+        ensures { result ≡ status_number self }
     {
         self as u8
     }
 
     /// What the program ends with.
     pub fn exit_code(self) -> ExitCode
-        ensures { exit_status result ≡ number_of self }
+        ensures { exit_status result ≡ status_number self }
     {
         ExitCode::from(self.number())
     }

@@ -1,5 +1,5 @@
 -- Laws of jobs, each file a subject.
-pub mod FourItems
+pub mod AskedNames
 pub mod KeptFiles
 pub mod OneJob
 pub mod Stages

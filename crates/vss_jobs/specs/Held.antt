@@ -1,16 +1,12 @@
--- What values of the program hold: the names and the command of words, and a job.
-use Rattle.vss_jobs.specs.Words.{DocumentNames, Command, judge}
+-- The job that a value of the program holds.
 use Rattle.vss_jobs.specs.Settings.{setting_of}
-use Rattle.vss_jobs.specs.Readings.{Job, judging}
-use Rattle.vss_jobs.specs.declared.words.DocumentNames.{DocumentNames as HeldNames}
-use Rattle.vss_jobs.specs.declared.words.ReportNames.{ReportNames as HeldReportNames}
+use Rattle.vss_jobs.specs.Readings.{Job, judging, checking, searching, making, trying}
 use Rattle.vss_jobs.specs.declared.job.Job.{Job as HeldJob}
-
-abbrev pub names_in : HeldNames → DocumentNames
-names_in names = record { network = names.network.now; timetable = names.timetable.now }
-
-abbrev pub command_in : HeldReportNames → Command
-command_in names = judge (names_in names.documents) names.report.now
+use Rattle.vss_jobs.specs.declared.job.Job.TheVariants as held
 
 abbrev pub job_in : HeldJob → Job
-job_in job = judging (setting_of job.scene) job.layout job.plan
+job_in (held.Judge scene layout plan) = judging (setting_of scene) layout plan
+job_in (held.Check scene refutation line) = checking (setting_of scene) refutation line
+job_in (held.Search scene search budget) = searching (setting_of scene) search budget
+job_in (held.Make network timetable) = making network timetable
+job_in (held.Trial scene budget) = trying (setting_of scene) budget

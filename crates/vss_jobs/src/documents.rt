@@ -4,15 +4,13 @@ ghost use Rattle.std.specs.Prelude.{◌≡◌, [], ◌∷◌, IfOk};
 ghost use Rattle.vss_io.specs.Reading.{Keeps};
 ghost use Rattle.vss_stages.specs.Stages.{Ends};
 ghost use Rattle.timetable.specs.Timetables.{IsTimetable};
-ghost use Rattle.vss_jobs.specs.Words.{names_of_documents};
-ghost use Rattle.vss_jobs.specs.Held.{names_in};
+ghost use Rattle.vss_jobs.specs.Asked.{names_of_documents};
 ghost use Rattle.vss_jobs.specs.Settings.{setting_of};
 ghost use Rattle.vss_jobs.specs.Readings.{ReadsNetwork, ReadsTimetable, CutsScene};
-ghost use Rattle.vss_jobs.specs.Jobs.{ReadsScene, IsNetworkOf, IsSceneOf};
+ghost use Rattle.vss_jobs.specs.Jobs.{ReadsScene, IsNetworkOf, IsSettingOf, IsSettingOfTexts};
 
 use crate::refusal::Refusal;
 use crate::stops::{stop_of_grid, stop_of_network, stop_of_timetable};
-use crate::words::DocumentNames;
 use cell_net::Scene;
 use discretise::scene_of;
 use net_reader::read_net;
@@ -21,21 +19,24 @@ use std::alloc::Global;
 use timetable::{Timetable, read_timetable};
 use vss_io::Shelf;
 use vss_stages::{Input, Stop, read_input};
+use vss_words::DocumentNames;
 
 /// Reads both documents, the network's first, and makes their scene.
 pub fn read_documents<H: Shelf>(
     alloc: Global,
-    names: &DocumentNames<'_>,
+    names: &DocumentNames,
     shelf: &mut H,
 ) -> Result<Scene, Stop<Refusal>>
-    ensures kept { Keeps (H.shown shelf.old) (H.shown shelf.new) (names_of_documents (names_in names.now)) }
-    ensures scene { Ends (IsSceneOf (H.shown shelf.old) (H.shown shelf.new) (names_in names.now)) setting_of result }
+    ensures kept { Keeps (H.shown shelf.old) (H.shown shelf.new) (names_of_documents names.now) }
+    ensures scene { Ends (IsSettingOf (H.shown shelf.old) (H.shown shelf.new) names.now) setting_of result }
 {
-    let net = match read_network(alloc, names.network, shelf) {
+    let network = names.network.as_str();
+    let timetable = names.timetable.as_str();
+    let net = match read_network(alloc, network, shelf) {
         Ok(net) => net,
         Err(stop) => return Err(stop),
     };
-    match read_input(shelf, Input::Timetable, names.timetable) {
+    match read_input(shelf, Input::Timetable, timetable) {
         Ok(bytes) => scene_with(alloc, &net, bytes.as_slice()),
         Err(stop) => Err(stop),
     }
@@ -95,5 +96,19 @@ fn cut(alloc: Global, net: &Net, timetable: &Timetable) -> Result<Scene, Stop<Re
     match scene_of(alloc, net, timetable) {
         Ok(scene) => Ok(scene),
         Err(why) => Err(stop_of_grid(why)),
+    }
+}
+
+/// The scene of the texts of both documents.
+pub fn scene_of_texts(
+    alloc: Global,
+    network: &[u8],
+    timetable: &[u8],
+) -> Result<Scene, Stop<Refusal>>
+    ensures { Ends (IsSettingOfTexts network.now timetable.now) setting_of result }
+{
+    match network_of(alloc, network) {
+        Ok(net) => scene_with(alloc, &net, timetable),
+        Err(stop) => Err(stop),
     }
 }

@@ -1,24 +1,22 @@
 //! The job that words and files make.
 
-ghost use Rattle.std.specs.Prelude.{◌≡◌, ◌≤◌, ◌^◌, IfOk, IsErrOf, drop, length, map, string_bytes};
+ghost use Rattle.std.specs.Prelude.{◌≡◌, IfOk, IsErrOf, map, string_bytes};
 ghost use Rattle.vss_io.specs.Reading.{Keeps};
-ghost use Rattle.vss_stages.specs.Stages.{Ends};
-ghost use Rattle.vss_jobs.specs.Words.{AskForTask, files_named};
-ghost use Rattle.vss_jobs.specs.Held.{command_in, job_in};
-ghost use Rattle.vss_jobs.specs.Settings.{setting_of};
-ghost use Rattle.vss_jobs.specs.Readings.{ReadsDesign};
-ghost use Rattle.vss_jobs.specs.Jobs.{IsReady, IsJobOf, IsJob};
+ghost use Rattle.vss_stages.specs.Stages.{Then, Ends};
+ghost use Rattle.vss_words.specs.Commands.{command, HasInRange, IsBudget, NamesTask};
+ghost use Rattle.vss_jobs.specs.Asked.{files_named, files_asked_for, names_of_documents};
+ghost use Rattle.vss_jobs.specs.Held.{job_in};
+ghost use Rattle.vss_jobs.specs.Jobs.{IsReadyJob, IsJobOf, IsJob, IsSettingOf, IsSearchJob};
 
+use crate::cases::{making_case, trying_case};
 use crate::documents::read_documents;
-use crate::job::Job;
+use crate::job::{Job, Search};
 use crate::refusal::Refusal;
-use crate::stops::stop_of_report;
-use crate::words::{ReportNames, command_of};
-use cell_net::Scene;
+use crate::reports::{checking, judging};
 use std::alloc::Global;
 use vss_io::Shelf;
-use vss_report::read_design;
-use vss_stages::{Input, Stop, read_input};
+use vss_stages::Stop;
+use vss_words::{Command, DocumentNames, WordsFault, command_of};
 
 /// The job that the words ask for and the files make, with all that it needs; or why there is none. Files are read in
 /// their order, and none behind one that isn't accepted.
@@ -27,49 +25,69 @@ pub fn job_of<H: Shelf>(
     words: &[String],
     shelf: &mut H,
 ) -> Result<Job, Stop<Refusal>>
-    ensures kept { Keeps (H.shown shelf.old) (H.shown shelf.new) (drop 1 (map string_bytes words.now)) }
+    ensures kept { Keeps (H.shown shelf.old) (H.shown shelf.new) (files_asked_for (command (map string_bytes words.now))) }
     ensures job { Ends (IsJob (map string_bytes words.now) (H.shown shelf.old) (H.shown shelf.new)) job_in result }
-    ensures ready { IfOk result (λ job. IsReady (job_in job)) }
-    ensures memory { IsErrOf result Stop.Memory → AskForTask (map string_bytes words.now) }
+    ensures ready { IfOk result (λ job. IsReadyJob (job_in job)) }
+    ensures memory { IsErrOf result Stop.Memory → NamesTask (map string_bytes words.now) }
 {
-    match command_of(words) {
-        Some(names) => judging(alloc, &names, shelf),
-        None => Err(Stop::Usage),
+    match command_of(alloc, words) {
+        Ok(asked) => job_for(alloc, &asked, shelf),
+        Err(WordsFault::NotTaken) => Err(Stop::Usage),
+        Err(WordsFault::Memory) => Err(Stop::Memory),
     }
 }
 
-/// Reads the documents and the report whose plan is to be judged.
-fn judging<H: Shelf>(
+/// The job of a command.
+fn job_for<H: Shelf>(alloc: Global, asked: &Command, shelf: &mut H) -> Result<Job, Stop<Refusal>>
+    requires { HasInRange asked.now }
+    ensures kept { Keeps (H.shown shelf.old) (H.shown shelf.new) (files_named asked.now) }
+    ensures job { Ends (IsJobOf (H.shown shelf.old) (H.shown shelf.new) asked.now) job_in result }
+    ensures ready { IfOk result (λ job. IsReadyJob (job_in job)) }
+{
+    match asked {
+        Command::Verify { documents, budget } => {
+            searching(alloc, documents, Search::Verify, *budget, shelf)
+        }
+        Command::Generate {
+            documents,
+            most,
+            budget,
+        } => searching(
+            alloc,
+            documents,
+            Search::Generate { most: *most },
+            *budget,
+            shelf,
+        ),
+        Command::Optimise { documents, budget } => {
+            searching(alloc, documents, Search::Optimise, *budget, shelf)
+        }
+        Command::Judge { documents, report } => judging(alloc, documents, report.as_str(), shelf),
+        Command::Check { documents, report } => checking(alloc, documents, report.as_str(), shelf),
+        Command::Make { seed, size } => making_case(alloc, *seed, *size),
+        Command::Trial { seed, size, budget } => trying_case(alloc, *seed, *size, *budget),
+    }
+}
+
+/// Reads the documents whose scene is to be searched.
+fn searching<H: Shelf>(
     alloc: Global,
-    names: &ReportNames<'_>,
+    names: &DocumentNames,
+    search: Search,
+    budget: u32,
     shelf: &mut H,
 ) -> Result<Job, Stop<Refusal>>
-    ensures kept { Keeps (H.shown shelf.old) (H.shown shelf.new) (files_named (command_in names.now)) }
-    ensures job { Ends (IsJobOf (H.shown shelf.old) (H.shown shelf.new) (command_in names.now)) job_in result }
-    ensures ready { IfOk result (λ job. IsReady (job_in job)) }
+    requires { IsBudget budget }
+    ensures kept { Keeps (H.shown shelf.old) (H.shown shelf.new) (names_of_documents names.now) }
+    ensures job { Ends (Then (IsSettingOf (H.shown shelf.old) (H.shown shelf.new) names.now) (IsSearchJob search budget)) job_in result }
+    ensures ready { IfOk result (λ job. IsReadyJob (job_in job)) }
 {
-    let scene = match read_documents(alloc, &names.documents, shelf) {
-        Ok(scene) => scene,
-        Err(stop) => return Err(stop),
-    };
-    match read_input(shelf, Input::Report, names.report) {
-        Ok(bytes) => design_of(alloc, scene, bytes.as_slice()),
-        Err(stop) => Err(stop),
-    }
-}
-
-/// The job to judge the design of a report for the scene.
-fn design_of(alloc: Global, scene: Scene, bytes: &[u8]) -> Result<Job, Stop<Refusal>>
-    requires { length bytes.now ≤ 2 ^ 30 }
-    ensures job { Ends (ReadsDesign (setting_of scene) bytes.now) job_in result }
-    ensures ready { IfOk result (λ job. IsReady (job_in job)) }
-{
-    match read_design(alloc, bytes, &scene) {
-        Ok(design) => Ok(Job {
+    match read_documents(alloc, names, shelf) {
+        Ok(scene) => Ok(Job::Search {
             scene,
-            layout: design.0,
-            plan: design.1,
+            search,
+            budget,
         }),
-        Err(fault) => Err(stop_of_report(fault)),
+        Err(stop) => Err(stop),
     }
 }

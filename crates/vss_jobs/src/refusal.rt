@@ -1,5 +1,6 @@
 //! Why what was read isn't accepted.
 
+use clause_encoder::EncodeRefusal;
 use discretise::CutRefusal;
 use net_reader::ReadRefusal;
 use timetable::TimeRefusal;
@@ -16,4 +17,6 @@ pub enum Refusal {
     Grid(CutRefusal),
     /// The report, for their scene.
     Report(ReportFault),
+    /// The size of the formula that the task takes.
+    Sizes(EncodeRefusal),
 }

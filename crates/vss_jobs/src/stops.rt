@@ -1,9 +1,10 @@
 //! How the refusals of readers end a call.
 
 ghost use Rattle.std.specs.Prelude.{◌≡◌};
-ghost use Rattle.vss_jobs.specs.Readings.{network_stop, timetable_stop, grid_stop, report_stop};
+ghost use Rattle.vss_jobs.specs.Readings.{network_stop, timetable_stop, grid_stop, report_stop, size_stop};
 
 use crate::refusal::Refusal;
+use clause_encoder::EncodeRefusal;
 use discretise::CutRefusal;
 use net_reader::ReadRefusal;
 use timetable::TimeRefusal;
@@ -54,5 +55,19 @@ pub fn stop_of_report(fault: ReportFault) -> Stop<Refusal>
         ReportFault::BadLine(_) => Stop::Refused(Refusal::Report(fault)),
         ReportFault::UnknownName(_) => Stop::Refused(Refusal::Report(fault)),
         ReportFault::NoPart => Stop::Refused(Refusal::Report(fault)),
+    }
+}
+
+/// How a refusal of size ends the call.
+pub fn stop_of_size(why: EncodeRefusal) -> Stop<Refusal>
+    ensures { result ≡ size_stop why }
+{
+    match why {
+        EncodeRefusal::Memory => Stop::Memory,
+        EncodeRefusal::TooManySweeps(_) => Stop::Refused(Refusal::Sizes(why)),
+        EncodeRefusal::TooManyWalks(_) => Stop::Refused(Refusal::Sizes(why)),
+        EncodeRefusal::TooManyVariables => Stop::Refused(Refusal::Sizes(why)),
+        EncodeRefusal::TooManyClauses => Stop::Refused(Refusal::Sizes(why)),
+        EncodeRefusal::TooManyLiterals => Stop::Refused(Refusal::Sizes(why)),
     }
 }

@@ -13,6 +13,7 @@ use std::env;
 use std::io::ErrorKind;
 use std::process::ExitCode;
 use vss_answers::Status;
+use watch_solver::WatchSolver;
 
 fn main(rt: HostRuntime) -> ExitCode {
     call_with(&rt).exit_code()
@@ -25,7 +26,7 @@ fn call_with(rt: &HostRuntime) -> Status {
     };
     let mut shelf = FileShelf::new(rt, rt.alloc());
     let mut out = StdSink::new(rt);
-    run(rt.alloc(), words.as_slice(), &mut shelf, &mut out)
+    run::<WatchSolver, _, _>(rt.alloc(), words.as_slice(), &mut shelf, &mut out)
 }
 
 /// The words behind the program's name; none where one of them isn't text, since that asks for no task.

@@ -1,6 +1,7 @@
 //! Calls of `run`, and what they have to end with.
 
 use crate::texts::LINE;
+use plain_solver::PlainSolver;
 use std::alloc::{AllocError, Global};
 use std::process::Abort;
 use std::test::Fail;
@@ -72,11 +73,24 @@ fn expect_ending(
 ) -> Result<(), Fail> {
     let words = words_of(alloc, words)?;
     let mut out = MemSink::new(alloc, 1000, Vec::new(alloc))?;
-    let found = run(alloc, words.as_slice(), shelf, &mut out);
+    let found = run::<PlainSolver, _, _>(alloc, words.as_slice(), shelf, &mut out);
     let wanted = format!(in alloc; "{line}\n")?;
     assert_eq!(rt; out.written(), wanted.as_bytes(), "wanted {line} for {row}");
     assert_eq!(rt; found.number(), status, "{line} for {row}");
     Ok(())
+}
+
+/// What a run on the words prints, at most 100,000 bytes, and its status.
+pub fn written_by(
+    alloc: Global,
+    words: &str,
+    shelf: &mut impl Shelf,
+) -> Result<(String, u8), Fail> {
+    let words = words_of(alloc, words)?;
+    let mut out = MemSink::new(alloc, 100_000, Vec::new(alloc))?;
+    let found = run::<PlainSolver, _, _>(alloc, words.as_slice(), shelf, &mut out);
+    let text = String::from_utf8(Vec::from_slice(alloc, out.written())?)?;
+    Ok((text, found.number()))
 }
 
 /// Runs on the words, and compares what is printed and the status.

@@ -19,13 +19,15 @@ fn counting_shelf(alloc: Global) -> Result<LongShelf, AllocError> {
     })
 }
 
-static NOT_TAKEN: [&str; 13] = [
+static NOT_TAKEN: [&str; 15] = [
     "",
     "judge",
     "judge net times",
     "judge net times plan plan",
     "verify net times plan",
-    "verify net times",
+    "verify net times --budget 0",
+    "optimise net times --borders 1",
+    "generate net times --borders 1 --borders 1",
     "Judge net times plan",
     "judges net times plan",
     "net times plan judge",

@@ -2,6 +2,7 @@
 
 use super::asking::{JUDGE, files_of, shelf_of, words_of};
 use crate::texts::{BORDERED, FOLLOWING, LINE, XY};
+use plain_solver::PlainSolver;
 use std::test::Fail;
 use vss_io::{MemSink, SureShelf, SureSink};
 use vss_run::run;
@@ -20,7 +21,7 @@ fn a_put_that_fails_leaves_a_front_of_the_line(rt: HostRuntime) -> Result<(), Fa
         let mut shelf = shelf_of(rt.alloc(), LINE, XY, report)?;
         let words = words_of(rt.alloc(), words)?;
         let mut out = MemSink::new(rt.alloc(), 1000, vec![in rt.alloc(); 0]?)?;
-        let status = run(rt.alloc(), words.as_slice(), &mut shelf, &mut out);
+        let status = run::<PlainSolver, _, _>(rt.alloc(), words.as_slice(), &mut shelf, &mut out);
         assert_eq!(rt; status.number(), 5, "at {written}");
         assert_eq!(rt; out.written(), written.as_bytes());
     }
@@ -41,7 +42,7 @@ fn a_line_that_does_not_fit_is_a_write_fault(rt: HostRuntime) -> Result<(), Fail
         let mut shelf = shelf_of(rt.alloc(), LINE, XY, BORDERED)?;
         let words = words_of(rt.alloc(), JUDGE)?;
         let mut out = MemSink::new(rt.alloc(), *room, Vec::new(rt.alloc()))?;
-        let status = run(rt.alloc(), words.as_slice(), &mut shelf, &mut out);
+        let status = run::<PlainSolver, _, _>(rt.alloc(), words.as_slice(), &mut shelf, &mut out);
         assert_eq!(rt; status.number(), *wanted, "at {written}");
         assert_eq!(rt; out.written(), written.as_bytes());
     }
@@ -55,7 +56,7 @@ fn devices_that_never_fail_get_an_answer(rt: HostRuntime) -> Result<(), Fail> {
         let files = files_of(rt.alloc(), LINE, XY, report)?;
         let mut shelf = SureShelf::new(rt.alloc(), files);
         let mut out = SureSink::new();
-        let status = run(rt.alloc(), words.as_slice(), &mut shelf, &mut out);
+        let status = run::<PlainSolver, _, _>(rt.alloc(), words.as_slice(), &mut shelf, &mut out);
         assert_eq!(rt; status.number(), wanted);
     }
     Ok(())

@@ -17,3 +17,7 @@ returns-in-Grid g c = rw c.in-Grid.is c.print_grid.ensures
 pub returns-in-Report : goal.returns-in-Report
 unfolding refusal_text
 returns-in-Report g c = rw c.in-Report.is c.print_report.ensures
+
+pub returns-in-Sizes : goal.returns-in-Sizes
+unfolding refusal_text
+returns-in-Sizes g c = rw c.in-Sizes.is c.print_sizes.ensures

@@ -8,6 +8,7 @@ use Rattle.vss_jobs.proofs.documents.cut.Goals as goal
 pub returns-in-Ok : goal.returns-in-Ok
 returns-in-Ok c = record {
   is_net = c.parts-parts.ensures.rules;
+  is_timetable = c.requires;
   hands_on = hands_value (IsCut c.args.net.now c.args.timetable.now) setting_of grid_stop c.in-Ok.scene c.in-Ok.ensures;
 }
 
@@ -16,5 +17,6 @@ returns-in-Err c =
     rw c.stop_of_grid.ensures
     (stops_by (CutsScene c.args.net.now c.args.timetable.now) (grid_stop c.in-Err.why) (record {
       is_net = c.parts-parts.ensures.rules;
+      is_timetable = c.requires;
       hands_on = hands_refusal (IsCut c.args.net.now c.args.timetable.now) setting_of grid_stop c.in-Err.why c.in-Err.ensures;
     }))

@@ -7,5 +7,6 @@ returns c = one_job (record {
   networks = c.network_readings_are_one.ensures;
   timetables = c.timetable_readings_are_one.ensures;
   scenes = c.scenes_are_one.ensures;
+  refutations = c.refutation_readings_are_one.ensures;
   designs = c.design_readings_are_one.ensures;
 })

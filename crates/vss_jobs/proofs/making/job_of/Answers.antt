@@ -3,14 +3,17 @@ use Rattle.std.proofs.Common.{refl}
 use Rattle.vss_stages.specs.Stages.{stops}
 use Rattle.vss_stages.specs.declared.stop.Stop.TheVariants.{Usage}
 use Rattle.vss_stages.proofs.StageLaws.{then_ends}
-use Rattle.vss_jobs.specs.Held.{command_in}
+use Rattle.vss_jobs.proofs.AskedNames.{names_task}
 use Rattle.vss_jobs.proofs.making.job_of.Goals as goal
 
-pub returns-in-Some-clause-job : goal.returns-in-Some-clause-job
-returns-in-Some-clause-job g c = then_ends _ _ _ (command_in c.in-Some.names) _ c.in-Some.ensures c.judging.ensures.job
+pub returns-in-Ok-clause-kept : goal.returns-in-Ok-clause-kept
+returns-in-Ok-clause-kept g c = rw c.in-Ok.ensures.asked c.job_for.ensures.kept
 
-pub returns-in-None-clause-job : goal.returns-in-None-clause-job
-returns-in-None-clause-job g c = stops Usage c.in-None.ensures refl
+pub returns-in-Ok-clause-job : goal.returns-in-Ok-clause-job
+returns-in-Ok-clause-job g c = then_ends _ _ _ c.in-Ok.asked _ c.in-Ok.ensures.asked c.job_for.ensures.job
 
-pub returns-in-Some-clause-memory : goal.returns-in-Some-clause-memory
-returns-in-Some-clause-memory g c = λ lacks. (command_in c.in-Some.names, c.in-Some.ensures)
+pub returns-in-Ok-clause-memory : goal.returns-in-Ok-clause-memory
+returns-in-Ok-clause-memory g c = λ lacks. names_task _ c.in-Ok.asked c.in-Ok.ensures.asked
+
+pub returns-in-Err-NotTaken-clause-job : goal.returns-in-Err-NotTaken-clause-job
+returns-in-Err-NotTaken-clause-job g c = stops Usage (rw c.in-Err-NotTaken.field-0-is at c.in-Err-NotTaken.ensures.asked) refl

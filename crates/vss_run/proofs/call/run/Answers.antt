@@ -10,7 +10,7 @@ returns-in-Ok-clause-ends g c =
     let files = g.H.Shelf.shown c.args.shelf.now in
     let after = g.H.Shelf.shown c.said_to-said.new.shelf in
     let other : c.said_to-said.result ≢ Err stop.Memory = λ same. not_true c.is_memory.result c.if-is_memory.false (c.is_memory.ensures.1 same) in
-    said_ends words files after _ _ _ c.said_to-said.result other (right_of words files after c.said_to-said.result c.said_to-said.ensures.right other) c.in-Ok.ensures.whole c.status_after.ensures
+    said_ends c.answers_are_true.ensures words files after _ _ _ c.said_to-said.result other (right_of words files after c.said_to-said.result c.said_to-said.ensures.right other) c.in-Ok.ensures.whole c.status_after.ensures
 
 pub returns-in-Ok-clause-decisive : goal.returns-in-Ok-clause-decisive
 returns-in-Ok-clause-decisive g c =

@@ -1,0 +1,2 @@
+-- What the contracts of `written_reports` cite.
+pub mod WrittenReports
