@@ -1,9 +1,9 @@
 -- Steps of the loops that make the numbers of trains, and that what is made is kept.
-use Rattle.std.proofs.Common.{◌≡◌, ℕ, zero, suc, ◌+◌, ◌-◌, ◌*◌, ◌<◌, ◌≤◌, ◌^◌, List, [], ◌∷◌, ◌++◌, length, take, get_or, map, min, max, refl, sym, ap, ◌∙◌, subst, arith}
+use Rattle.std.proofs.Common.{◌≡◌, ℕ, zero, suc, ◌+◌, ◌-◌, ◌*◌, ◌<◌, ◌≤◌, ◌^◌, List, [], ◌∷◌, ◌++◌, length, take, get_or, map, refl, sym, ap, ◌∙◌, subst, arith}
 use Rattle.std.specs.Prelude.{All, Some, slice_get}
 use Rattle.std.specs.List.{sum_by}
-use Rattle.std.proofs.lemmas.List.{get_or-map, length-map, take_more}
-use Rattle.std.proofs.lemmas.List.Sums.{sum_by_more_le, sum_by_more}
+use Rattle.std.proofs.lemmas.List.{get_or-map, length-map}
+use Rattle.std.proofs.lemmas.List.Sums.{sum_by_more}
 use Rattle.cell_net.specs.declared.parts.InstanceParts.{InstanceParts}
 use Rattle.cell_net.specs.declared.trains.StopSpec.{StopSpec}
 use Rattle.cell_net.specs.declared.trains.TrainSpec.{TrainSpec}
@@ -16,7 +16,7 @@ use Rattle.clause_list.specs.WholeList.{no_table}
 use Rattle.clause_list.specs.Numbers.{CodedTrain, behind_train, first_touch, first_ended, first_met, first_waits}
 use Rattle.clause_list.specs.Coding.{coded, coded_from, behind_all}
 use Rattle.clause_list.proofs.ListLaws.{length-below, at_below, range_rises}
-use Rattle.clause_encoder.specs.TrainStore.{Rises, IsKeptTrain, IsTrainStore, beginning_count, step_number, stop_number}
+use Rattle.clause_encoder.specs.TrainStore.{IsRising, IsTrainStore, beginning_count, step_number, stop_number}
 use Rattle.clause_encoder.specs.TrainFaults.{IsNumberFault}
 use Rattle.clause_encoder.specs.declared.build.NumberFault.{NumberFault}
 use Rattle.clause_encoder.specs.declared.build.NumberFault.TheVariants.{TooMany, Memory}
@@ -38,7 +38,7 @@ numbers_length of n numbers same = ap length same ∙ length-map (from_below 0 n
 
 -- a train whose numbers are made is kept
 pub train_stored : (start latest by last cells first : ℕ) (stops copy : List StopSpec) (cones : List (List ℕ)) (of_steps of_stops : List ℕ) (touches endings waiting behind : ℕ) →
-    start ≤ latest → latest ≤ by → by < 400 → last ≡ by - start → copy ≡ stops → length cones ≡ by + 1 - start → All Rises cones →
+    start ≤ latest → latest ≤ by → by < 400 → last ≡ by - start → copy ≡ stops → length cones ≡ by + 1 - start → All IsRising cones →
     of_steps ≡ map (step_number first cones) (from_below 0 (length cones)) → touches ≡ first + sum_by length cones → endings ≡ touches + (last + 1) * cells →
     of_stops ≡ map (stop_number start by (endings + last) stops) (from_below 0 (length stops)) → waiting ≡ endings + last + sum_by (beginning_count start by) stops → behind ≡ waiting + (latest - start) → behind < 2 ^ 32 →
     IsTrainStore (record { start = start; latest = latest; by = by; stops = copy; cones = cones; cells = cells; first = first }) of_steps of_stops touches endings waiting behind
@@ -99,17 +99,17 @@ fault_more TooMany small great le many = omega arith
 fault_more Memory small great le many = tt
 
 -- the cones of a train rise, and there is one for each step
-cone_rises : (table : Table) (window last k : ℕ) → Rises (cone_at table window last k)
+cone_rises : (table : Table) (window last k : ℕ) → IsRising (cone_at table window last k)
 unfolding cone_at
 cone_rises table window last k = AllPairs-filter (λ x y. x < y) (is_in_both (ahead table window k) (home table (last - k))) (below (length table.cells)) (range_rises 0 (length table.cells))
 
 pub cone_count : (table : Table) (window last : ℕ) (cones : List (List ℕ)) → cones ≡ cones_of table window last → length cones ≡ last + 1
 cone_count table window last cones same = ap length same ∙ length-map (below (last + 1)) (cone_at table window last) ∙ length-below (last + 1)
 
-pub cones_rise : (table : Table) (window last : ℕ) (cones : List (List ℕ)) → cones ≡ cones_of table window last → All Rises cones
+pub cones_rise : (table : Table) (window last : ℕ) (cones : List (List ℕ)) → cones ≡ cones_of table window last → All IsRising cones
 cones_rise table window last cones same k d within =
     let size : length cones ≡ last + 1 = cone_count table window last cones same in
-    subst Rises (sym (ap (λ cs. get_or cs k d) same ∙ get_or-map (cone_at table window last) (below (last + 1)) k 0 d (omega (arith, length-below (last + 1))))) (cone_rises table window last (get_or (below (last + 1)) k 0))
+    subst IsRising (sym (ap (λ cs. get_or cs k d) same ∙ get_or-map (cone_at table window last) (below (last + 1)) k 0 d (omega (arith, length-below (last + 1))))) (cone_rises table window last (get_or (below (last + 1)) k 0))
 
 -- numbers that begin at 1 or more end there
 pub one_le : (p : InstanceParts) (first : ℕ) (table : Table) (train : TrainSpec) → 1 ≤ first → 1 ≤ behind_train (coded p first table train)

@@ -1,6 +1,6 @@
 -- The lists that are written are those of the task, and what is said of their sizes.
-use Rattle.std.proofs.Common.{◌≡◌, ◌∙◌, ℕ, ◌+◌, ◌-◌, ◌<◌, ◌≤◌, List, [], ◌∷◌, ◌++◌, length, get_or, map, take, refl, sym, ap, subst, arith, Result, Ok, Err}
-use Rattle.std.specs.Prelude.{All, OnOk, IfErr}
+use Rattle.std.proofs.Common.{◌≡◌, ◌∙◌, ℕ, ◌+◌, ◌-◌, ◌<◌, ◌≤◌, List, [], ◌∷◌, ◌++◌, length, take, refl, sym, ap, subst, arith}
+use Rattle.std.specs.Prelude.{All}
 use Rattle.std.specs.List.{flat_map}
 use Rattle.std.proofs.lemmas.List.{append-nil, get_or-map, length-map}
 use Rattle.std.proofs.lemmas.List.Concat.{flat_map-append}
@@ -14,21 +14,20 @@ use Rattle.gap_clauses.specs.Crowds.{IsGapRefusal}
 use Rattle.gap_clauses.specs.declared.refusal.GapRefusal.{GapRefusal}
 use Rattle.gap_clauses.specs.declared.refusal.GapRefusal.TheVariants as why
 use Rattle.border_counter.specs.Counter.{sum_to, counter_clauses}
-use Rattle.clause_list.specs.Ranges.{below, from_below}
+use Rattle.clause_list.specs.Ranges.{from_below}
 use Rattle.clause_list.specs.Numbers.{Network, CodedTrain, first_of_trains}
 use Rattle.clause_list.specs.BorderClauses.{border_lits, most_clauses}
-use Rattle.clause_list.specs.WholeList.{of_each_train, of_train, by_each_train, by_train, plan_families, base_families, counted_families, given_families, whole, no_table}
+use Rattle.clause_list.specs.WholeList.{of_each_train, of_train, by_each_train, by_train, base_families, counted_families, whole}
 use Rattle.clause_list.specs.Coding.{network_of, trains_of, coded_from, behind_all, first_of_count, walks_in, given_task, base_task, free_task}
 use Rattle.clause_list.proofs.CodedLaws.{coded_are_numbered}
 use Rattle.clause_list.proofs.WalkLaws.{walks_are_over}
 use Rattle.clause_encoder.specs.declared.task.EncodeRefusal.{EncodeRefusal}
 use Rattle.clause_encoder.specs.declared.task.EncodeRefusal.TheVariants.{TooManySweeps, TooManyWalks, TooManyVariables, TooManyClauses, TooManyLiterals, Memory}
 use Rattle.clause_encoder.specs.TableLists.{IsKnownBy, table_over, tables_of}
-use Rattle.clause_encoder.specs.Families.{family_of}
 use Rattle.clause_encoder.specs.Plans.{GapLists, counted_task, plan_family, plan_list, given_list, base_list, counted_list, free_list, HasFewWalks, AreNumbers, IsNumbersRefusal, gap_refusal}
 use Rattle.clause_encoder.specs.PlanFits.{PlanFits, FitsGiven, FitsBase, FitsCount}
 use Rattle.sat_core.specs.Clauses.{IsClause}
-use Rattle.clause_list.specs.Orders.{AreNumbered}
+use Rattle.clause_list.specs.Orders.{AreAllNumbered}
 use Rattle.clause_list.proofs.WholeLaws.{base_are_clauses, given_task_are_clauses}
 use Rattle.clause_encoder.specs.Sizes.{IsSizeRefusal}
 use Rattle.clause_encoder.specs.Writing.{literal_count}
@@ -113,7 +112,7 @@ size_refused TooManyLiterals p variables clauses units gaps list are few le same
 size_refused Memory p variables clauses units gaps list are few le same cause = tt
 
 -- the numbers of an instance's trains are numbers of so many variables
-numbered_over : {X : Type 0} (items : X → ℕ) (table : X → InstanceParts → Table) (p : InstanceParts) (tables : List X) (vars : ℕ) → IsInstance p → length tables ≡ length p.trains → All (IsKnownBy items table p) tables → first_of_count p (tables_of table p tables) ≤ vars + 1 → AreNumbered vars (network_of p) (tables_of table p tables) (trains_of p (tables_of table p tables))
+numbered_over : {X : Type 0} (items : X → ℕ) (table : X → InstanceParts → Table) (p : InstanceParts) (tables : List X) (vars : ℕ) → IsInstance p → length tables ≡ length p.trains → All (IsKnownBy items table p) tables → first_of_count p (tables_of table p tables) ≤ vars + 1 → AreAllNumbered vars (network_of p) (tables_of table p tables) (trains_of p (tables_of table p tables))
 numbered_over items table p tables vars rules same known last =
     coded_are_numbered p (tables_of table p tables) vars rules (length-map tables (table_over table p) ∙ same) (tables_are items table p tables known) last
 

@@ -1,5 +1,5 @@
 -- The table and the numbers of a train among those of all.
-use Rattle.std.proofs.Common.{◌≡◌, ◌∙◌, ℕ, ◌<◌, List, length, get_or, map, sym, ap, subst, arith}
+use Rattle.std.proofs.Common.{◌≡◌, ◌∙◌, ℕ, ◌<◌, List, length, get_or, sym, ap, subst}
 use Rattle.std.proofs.lemmas.List.{get_or-map}
 use Rattle.cell_net.specs.declared.parts.InstanceParts.{InstanceParts}
 use Rattle.sat_core.specs.declared.literal.Lit.{Lit}

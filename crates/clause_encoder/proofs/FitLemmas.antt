@@ -1,5 +1,5 @@
 -- The numbers of an instance's trains fit their tables.
-use Rattle.std.proofs.Common.{◌≡◌, ◌∙◌, ℕ, ◌+◌, ◌-◌, ◌<◌, ◌≤◌, ◌^◌, List, [], ◌∷◌, ◌++◌, length, get_or, take, map, refl, sym, ap, subst, arith}
+use Rattle.std.proofs.Common.{◌≡◌, ◌∙◌, ℕ, ◌+◌, ◌-◌, ◌<◌, ◌≤◌, List, [], ◌∷◌, length, get_or, take, refl, sym, ap, subst, arith}
 use Rattle.std.specs.Prelude.{All}
 use Rattle.std.proofs.lemmas.List.{get_or-map, length-map, take_more}
 use Rattle.std.proofs.lemmas.List.Elements.{All-append, All-cons, All-nil, All-filter}
@@ -8,12 +8,12 @@ use Rattle.cell_net.specs.Rules.{IsInstance, IsGoodTrain}
 use Rattle.cell_net.specs.declared.cells.End.TheVariants.{Low}
 use Rattle.cell_net.specs.declared.parts.InstanceParts.{InstanceParts}
 use Rattle.cell_net.specs.declared.trains.TrainSpec.{TrainSpec}
-use Rattle.sweep_table.specs.Tables.{Table, IsTable, cells_of}
+use Rattle.sweep_table.specs.Tables.{Table}
 use Rattle.clause_list.specs.Ranges.{below}
-use Rattle.clause_list.specs.Numbers.{CodedTrain, cone, behind_train, first_of_trains}
+use Rattle.clause_list.specs.Numbers.{CodedTrain, behind_train, first_of_trains}
 use Rattle.clause_list.specs.Cones.{ahead, home, is_in_both, cone_at}
 use Rattle.clause_list.specs.WholeList.{table_at, train_at, no_table}
-use Rattle.clause_list.specs.Coding.{coded, coded_from, behind_all, network_of, trains_of, first_of_count}
+use Rattle.clause_list.specs.Coding.{coded, network_of, trains_of, first_of_count}
 use Rattle.clause_list.proofs.ListLaws.{length-below, at_below}
 use Rattle.clause_list.proofs.CodedLaws.{coded_at, cone_is, length-coded_from}
 use Rattle.clause_encoder.specs.TrainStore.{IsKeptTrain}

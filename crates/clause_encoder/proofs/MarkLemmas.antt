@@ -1,7 +1,7 @@
 -- Steps of the loops that mark items.
-use Rattle.std.proofs.Common.{◌≡◌, ℕ, zero, suc, ◌+◌, ◌-◌, ◌≤◌, Bool, false, List, [], ◌∷◌, ◌++◌, length, map, take, get_or, refl, sym, ap, ◌∙◌, arith}
+use Rattle.std.proofs.Common.{◌≡◌, ℕ, zero, suc, ◌+◌, ◌-◌, ◌^◌, ◌<◌, ◌≤◌, Bool, false, List, [], ◌∷◌, ◌++◌, length, map, take, get_or, refl, sym, ap, ◌∙◌, arith}
 use Rattle.std.proofs.lemmas.List.{take_more, take_all}
-use Rattle.std.proofs.lemmas.List.FromFn.{map-range_with_len_more}
+use Rattle.std.proofs.lemmas.List.FromFn.{map-range_with_len_more, length-map-range_with_len}
 use Rattle.sweep_table.specs.Tables.{Table}
 use Rattle.clause_list.specs.Ranges.{from_below}
 use Rattle.clause_list.specs.Cones.{home, home_before}
@@ -22,6 +22,11 @@ map_below_none test = refl
 -- a vector of the tests of the numbers so far, and one more
 pub pushed_more : {X : Type 0} (test : ℕ → X) (n : ℕ) (old new : List X) (b : X) → old ≡ map test (from_below 0 n) → new ≡ old ++ b ∷ [] → b ≡ test n → new ≡ map test (from_below 0 (n + 1))
 pushed_more test n old new b before this same = this ∙ ap (λ xs. xs ++ b ∷ []) before ∙ ap (λ c. map test (from_below 0 n) ++ c ∷ []) same ∙ sym (rows_more test n)
+
+-- so many marks are few
+pub marks_few : (test : ℕ → Bool) (n : ℕ) (marks : List Bool) → marks ≡ map test (from_below 0 n) → n ≤ 50000 → length marks < 2 ^ 32 - 1
+unfolding from_below
+marks_few test n marks same few = let size : length marks ≡ n - 0 = ap length same ∙ length-map-range_with_len test 0 (n - 0) in omega (arith, size)
 
 map_take : (bs : List Bool) (n : ℕ) → n ≤ length bs → map (λ w. get_or bs w false) (from_below 0 n) ≡ take n bs
 map_take bs zero within = map_below_none (λ w. get_or bs w false)

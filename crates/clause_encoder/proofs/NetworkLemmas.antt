@@ -1,5 +1,5 @@
 -- Steps of the loops that number a network, and what is stored of it.
-use Rattle.std.proofs.Common.{◌≡◌, ◌≢◌, ℕ, suc, ◌+◌, ◌-◌, ◌*◌, ◌<◌, ◌≤◌, ◌^◌, Bool, false, List, [], ◌∷◌, ◌++◌, length, get_or, take, drop, map, filter, refl, sym, ap, ◌∙◌, subst, ⊎_elim, arith, Some}
+use Rattle.std.proofs.Common.{◌≡◌, ◌≢◌, ℕ, ◌+◌, ◌-◌, ◌*◌, ◌<◌, ◌≤◌, ◌^◌, List, [], ◌∷◌, ◌++◌, length, get_or, take, drop, map, sym, ap, ◌∙◌, subst, ⊎_elim, arith, Some}
 use Rattle.std.specs.Prelude.{nat_eq, slice_index, slice_get}
 use Rattle.std.specs.List.{position_or_len}
 use Rattle.std.proofs.lemmas.Bool.{eq-eqb}
@@ -10,10 +10,10 @@ use Rattle.std.proofs.Math.Nat.{mul-le-mul_right}
 use Rattle.std.proofs.lemmas.List.Sums.{position_or_len_is}
 use Rattle.std.proofs.lemmas.List.FromFn.{map-range_with_len_more}
 use Rattle.clause_list.specs.Ranges.{from_below, below}
-use Rattle.clause_list.specs.Numbers.{Network, section_of, above, gap, gaps_below, first_of_trains}
+use Rattle.clause_list.specs.Numbers.{Network, section_of, above, gap, gaps_below}
 use Rattle.clause_list.specs.Orders.{place_in_section, first_gap}
 use Rattle.clause_list.proofs.ListLaws.{length-below, at_below, same_number}
-use Rattle.clause_list.proofs.SectionLaws.{above_is, place_within, places_of_section, length-above, next_gap, few_gaps, few_in_section, first_of_gaps}
+use Rattle.clause_list.proofs.SectionLaws.{above_is, place_within, places_of_section, length-above, next_gap, few_gaps, few_in_section}
 use Rattle.std.specs.Prelude.{All}
 use Rattle.std.proofs.lemmas.List.Elements.{Contains-get_or}
 use Rattle.clause_list.proofs.BorderLaws.{section_member, above_member}

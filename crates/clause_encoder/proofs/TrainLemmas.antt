@@ -1,20 +1,18 @@
 -- Laws of the numbers of a train's variables, and of a search in a rising list.
-use Rattle.std.proofs.Common.{◌≡◌, ◌≢◌, ℕ, zero, suc, ◌+◌, ◌-◌, ◌*◌, ◌<◌, ◌≤◌, ◌^◌, Bool, true, false, List, [], ◌∷◌, length, take, get_or, min, max, refl, sym, ap, ◌∙◌, subst, ⊎_elim, arith}
-use Rattle.std.specs.Prelude.{All, nat_eq, slice_index_or}
+use Rattle.std.proofs.Common.{◌≡◌, ◌≢◌, ℕ, suc, ◌+◌, ◌-◌, ◌*◌, ◌<◌, ◌≤◌, ◌^◌, false, List, [], ◌∷◌, length, take, get_or, min, max, refl, sym, ap, ◌∙◌, subst, ⊎_elim, arith}
+use Rattle.std.specs.Prelude.{nat_eq, slice_index_or}
 use Rattle.std.specs.List.{sum_by, position_or_len, list_any}
 use Rattle.std.proofs.lemmas.List.Sums.{sum_by_more_le, position_or_len_is}
 use Rattle.std.proofs.lemmas.Bool.{eq-eqb, cases_lt}
 use Rattle.std.proofs.lemmas.Bool.Decides.{eqb_tells}
 use Rattle.std.proofs.Math.Nat.{mul-le-mul_right}
-use Rattle.clause_list.specs.Ranges.{from_below}
-use Rattle.clause_list.specs.Numbers.{CodedTrain, cone, sweep, touch, ended, waits, beginnings, first_touch, first_ended, first_met, first_waits, behind_train}
-use Rattle.clause_list.specs.StopClauses.{stop_at, no_stop, meets}
-use Rattle.cell_net.specs.declared.trains.StopSpec.{StopSpec}
+use Rattle.clause_list.specs.Numbers.{CodedTrain, cone, sweep, touch, beginnings, first_ended, first_waits, behind_train}
+use Rattle.clause_list.specs.StopClauses.{stop_at, no_stop}
 use Rattle.clause_list.proofs.ListLaws.{length-from_below}
-use Rattle.clause_encoder.specs.TrainStore.{Rises, IsKeptTrain, IsTrainStore, IsSearched, first_of_step, first_of_stop}
+use Rattle.clause_encoder.specs.TrainStore.{IsRising, IsKeptTrain, IsTrainStore, IsSearched, first_of_step, first_of_stop}
 
 -- in a rising list an item stands first at its place
-place_is : (xs : List ℕ) (place : ℕ) → Rises xs → place < length xs → position_or_len (nat_eq (get_or xs place 0)) xs ≡ place
+place_is : (xs : List ℕ) (place : ℕ) → IsRising xs → place < length xs → position_or_len (nat_eq (get_or xs place 0)) xs ≡ place
 place_is xs place rises within =
     position_or_len_is (nat_eq (get_or xs place 0)) xs place 0 (omega arith)
     (λ k below. ⊎_elim (λ h. absurd (let lower : get_or xs k 0 < get_or xs place 0 = rises k place 0 below within in omega (arith, h.1))) (λ h. h.0) (eqb_tells (get_or xs place 0) (get_or xs k 0)))
@@ -24,7 +22,7 @@ place_is xs place rises within =
 pub step_place : (a : CodedTrain) (t : ℕ) → IsKeptTrain a → a.start ≤ t → t ≤ a.by → t - a.start < length a.cones
 step_place a t kept after before = let steps : length a.cones ≡ a.by + 1 - a.start = kept.for_each_step in omega arith
 
-pub cone_rises : (a : CodedTrain) (t : ℕ) → IsKeptTrain a → a.start ≤ t → t ≤ a.by → Rises (cone a t)
+pub cone_rises : (a : CodedTrain) (t : ℕ) → IsKeptTrain a → a.start ≤ t → t ≤ a.by → IsRising (cone a t)
 cone_rises a t kept after before = kept.rising (t - a.start) [] (step_place a t kept after before)
 
 -- the number of the item with that place in the cone of a step, and its bound
@@ -63,7 +61,7 @@ missing (x ∷ xs) item none =
     (eqb_tells item x)
 
 -- what a search that finds nothing says
-pub searched_none : (xs : List ℕ) (item low high : ℕ) → Rises xs → IsSearched xs item low high → high ≤ low → (low < length xs → get_or xs low 0 ≢ item) → list_any (nat_eq item) xs ≡ false
+pub searched_none : (xs : List ℕ) (item low high : ℕ) → IsRising xs → IsSearched xs item low high → high ≤ low → (low < length xs → get_or xs low 0 ≢ item) → list_any (nat_eq item) xs ≡ false
 searched_none xs item low high rises searched end other =
     missing xs item (λ k within same. ⊎_elim
     (λ before. let h : get_or xs k 0 < item = searched.below k before in omega arith)

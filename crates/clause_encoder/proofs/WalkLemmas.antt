@@ -1,12 +1,12 @@
 -- Steps of the loop that adds a literal for each item of a list; and the walks between two cells.
-use Rattle.std.proofs.Common.{◌≡◌, ℕ, ◌+◌, ◌<◌, ◌≤◌, List, [], ◌∷◌, ◌++◌, length, get_or, take, map, refl, sym, ap, ◌∙◌, subst, append_assoc, arith}
+use Rattle.std.proofs.Common.{◌≡◌, ℕ, ◌+◌, ◌<◌, ◌≤◌, List, [], ◌∷◌, ◌++◌, length, get_or, take, map, sym, ap, ◌∙◌, subst, append_assoc, arith}
 use Rattle.std.specs.Prelude.{All, Contains, slice_index}
 use Rattle.std.proofs.lemmas.Grind.{get_or_default_zero}
 use Rattle.std.proofs.lemmas.List.{append-nil, map-append, take_more, take_all}
 use Rattle.sat_core.specs.declared.literal.Lit.{Lit}
 use Rattle.cell_net.specs.declared.ids.CandidateId.{CandidateId}
 use Rattle.clause_list.specs.Numbers.{Network, above}
-use Rattle.clause_list.specs.Orders.{AreOver, AreWalksOver}
+use Rattle.clause_list.specs.Orders.{AreWalksOver}
 use Rattle.clause_encoder.specs.Writing.{Writing, Adds}
 use Rattle.clause_encoder.specs.PairFitting.{IsAbove}
 use Rattle.clause_encoder.specs.WalkFitting.{AreFew}

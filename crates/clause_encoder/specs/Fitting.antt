@@ -1,5 +1,5 @@
 -- What a table and the numbers of a train have to do with one another.
-use Rattle.std.specs.Prelude.{◌<◌, ◌≤◌, ℕ, List, All, filter, length, map, [], ◌∷◌}
+use Rattle.std.specs.Prelude.{◌<◌, ◌≤◌, ℕ, List, All, filter, map, [], ◌∷◌}
 use Rattle.std.specs.List.{flat_map}
 use Rattle.cell_net.specs.declared.cells.DirCell.{DirCell}
 use Rattle.sat_core.specs.declared.literal.Lit.{Lit}

@@ -1,10 +1,9 @@
 -- What contracts see of the map of a list's variables.
-use Rattle.std.specs.Prelude.{◌≡◌, ◌<◌, ◌≤◌, ◌^◌, ◌+◌, ℕ, List, Bool, true, ◌&&◌, nat_eq, nat_le, length}
+use Rattle.std.specs.Prelude.{◌≡◌, ◌≤◌, ℕ, List, Bool, true, ◌&&◌, nat_eq, nat_le, length}
 use Rattle.std.specs.List.{list_any}
 use Rattle.cell_net.specs.declared.parts.InstanceParts.{InstanceParts}
 use Rattle.sweep_table.specs.Parts.{SweepParts}
 use Rattle.sweep_table.specs.Tables.{Table}
-use Rattle.border_counter.specs.Counter.{sum_to}
 use Rattle.clause_list.specs.Numbers.{CodedTrain, cone}
 use Rattle.clause_list.specs.Coding.{trains_of}
 

@@ -4,7 +4,7 @@ use Rattle.sat_core.specs.declared.literal.Lit.{Lit}
 use Rattle.cell_net.specs.declared.trains.StopSpec.{StopSpec}
 use Rattle.clause_list.specs.Ranges.{from_below}
 use Rattle.clause_list.specs.Numbers.{CodedTrain, is}
-use Rattle.clause_list.specs.StopClauses.{stop_at, meets, last_of, stop_in_run, entered, stand}
+use Rattle.clause_list.specs.StopClauses.{stop_at, meets, last_of_stop, stop_in_run, entered, stand}
 use Rattle.sweep_table.specs.Tables.{Table, stands_in}
 
 -- the first step of the beginnings of a stop, and the step behind the last
@@ -23,7 +23,7 @@ met_from a i from end = map (met_at a i) (from_below from end)
 
 -- for each beginning: at the last step of the stop the run has not ended, if it may have
 unfoldable pub in_run_at : CodedTrain → ℕ → ℕ → List (List Lit)
-in_run_at a i s = cond (nat_lt a.start (last_of a i s)) (stop_in_run a i s ∷ []) []
+in_run_at a i s = cond (nat_lt a.start (last_of_stop a i s)) (stop_in_run a i s ∷ []) []
 
 -- for each beginning: the run does not begin after it, if it may
 unfoldable pub entered_at : CodedTrain → ℕ → ℕ → List (List Lit)

@@ -2,7 +2,7 @@
 use Rattle.std.specs.Prelude.{◌≡◌, ◌<◌, ◌≤◌, ◌+◌, ℕ, List, length, map, Some, slice_get, slice_index_or}
 use Rattle.cell_net.specs.declared.parts.InstanceParts.{InstanceParts}
 use Rattle.cell_net.specs.declared.trains.TrainSpec.{TrainSpec}
-use Rattle.sweep_table.specs.Tables.{Table, IsTable}
+use Rattle.sweep_table.specs.Tables.{IsTable}
 use Rattle.sweep_table.specs.Parts.{SweepParts, table_of}
 use Rattle.cell_net.specs.declared.ids.TrainId.{TrainId}
 use Rattle.sweep_table.specs.declared.refusal.TableRefusal.{TableRefusal}

@@ -6,8 +6,8 @@ use Rattle.clause_list.specs.Ranges.{from_below}
 use Rattle.clause_list.specs.Numbers.{CodedTrain, first_touch, first_ended, first_met, first_waits, behind_train}
 
 -- rising, so no number twice
-abbrev pub Rises : List ℕ → Type 0
-Rises xs = AllPairs (λ x y. x < y) xs
+abbrev pub IsRising : List ℕ → Type 0
+IsRising xs = AllPairs (λ x y. x < y) xs
 
 -- the number of the first variable of the items of a step, counted from the train's first step
 abbrev pub step_number : ℕ → List (List ℕ) → ℕ → ℕ
@@ -33,7 +33,7 @@ pub record IsKeptTrain (a : CodedTrain) : Type 0 where
   pub in_order : a.latest ≤ a.by
   pub few_steps : a.by < 400
   pub for_each_step : length a.cones ≡ a.by + 1 - a.start
-  pub rising : All Rises a.cones
+  pub rising : All IsRising a.cones
   pub few : behind_train a < 2 ^ 32
 
 -- the numbers at which the variables of each step, of each stop and of each kind begin

@@ -1,5 +1,5 @@
 -- What the candidates of walks have to do with the numbers of a network; and the clause of one walk.
-use Rattle.std.specs.Prelude.{◌<◌, ◌∷◌, [], ℕ, List, length, map, All, Contains}
+use Rattle.std.specs.Prelude.{◌<◌, ◌∷◌, [], ℕ, List, map, All}
 use Rattle.sat_core.specs.declared.literal.Lit.{Lit}
 use Rattle.cell_net.specs.declared.ids.CandidateId.{CandidateId}
 use Rattle.clause_list.specs.Numbers.{is, is_not, border}

@@ -4,7 +4,7 @@ ghost use Rattle.clause_list.specs.Ranges.{from_below};
 ghost use Rattle.clause_list.specs.Numbers.{behind_train};
 ghost use Rattle.clause_list.specs.Coding.{coded};
 ghost use Rattle.clause_encoder.specs.declared.limits.TheConstants.{VARIABLES};
-ghost use Rattle.clause_encoder.specs.TrainStore.{Rises, beginning_count, step_number, stop_number};
+ghost use Rattle.clause_encoder.specs.TrainStore.{IsRising, beginning_count, step_number, stop_number};
 ghost use Rattle.clause_encoder.specs.TrainFaults.{IsNumberFault, IsInWindow, coded_over};
 
 use crate::gather::{GatherFault, gather_cones};
@@ -61,7 +61,7 @@ fn numbered(
     requires window { IsInWindow train.now }
     requires first { (1 ≤ first) × (first ≤ VARIABLES + 1) }
     requires for_each { length cones ≡ train.now.by + 1 - train.now.start }
-    requires rising { All Rises cones }
+    requires rising { All IsRising cones }
     requires few { sum_by length cones ≤ VARIABLES }
     ensures ok { IfOk result (λ a. a ≡ coded_over inst.now first cones train.now) }
     ensures few { IfOk result (λ a. behind_train a ≤ VARIABLES + 1) }

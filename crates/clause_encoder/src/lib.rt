@@ -42,6 +42,7 @@ pub use base::encode_base;
 pub use build::NumberFault;
 pub use encoder::{Encoded, encode_over};
 pub use gather::{GatherFault, gather_cones};
+pub use known::know_tables;
 pub use limits::{CLAUSES, LITERALS, VARIABLES};
 pub use literals::{is, is_not};
 pub use map::VarMap;
@@ -51,6 +52,3 @@ pub use sweeps::encode;
 pub use task::{EncodeRefusal, Task};
 pub use train::TrainNumbers;
 pub use writer::{ClauseWriter, WriteFault};
-
-#[cfg(test)]
-mod tests;

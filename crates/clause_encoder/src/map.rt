@@ -1,7 +1,7 @@
 //! Where the variables of a list stand.
 ghost use Rattle.std.specs.Prelude.{◌≡◌, ◌<◌, ◌≤◌, ◌+◌, true, length, Some, slice_get};
 ghost use Rattle.border_counter.specs.Counter.{at_least_lit};
-ghost use Rattle.clause_list.specs.Numbers.{border, sweep, ended, waits};
+ghost use Rattle.clause_list.specs.Numbers.{border, sweep, run_ended, waits};
 ghost use Rattle.clause_list.specs.WholeList.{train_at};
 ghost use Rattle.clause_encoder.specs.Maps.{has_item, IsKeptMap};
 
@@ -100,7 +100,7 @@ impl VarMap {
         requires train { a.0 < length self.now.trains }
         requires after { (train_at self.now.trains a.0).start < t }
         requires before { t ≤ (train_at self.now.trains a.0).by }
-        ensures { result.0 ≡ ended (train_at self.now.trains a.0) t }
+        ensures { result.0 ≡ run_ended (train_at self.now.trains a.0) t }
     {
         Var(self.numbers(a).ended(t))
     }

@@ -1,5 +1,5 @@
 //! Marks of the items of a table that lie ahead at a step, or lead home from it.
-ghost use Rattle.std.specs.Prelude.{◌≡◌, ◌<◌, ◌+◌, map, IfOk};
+ghost use Rattle.std.specs.Prelude.{◌≡◌, ◌<◌, ◌≤◌, ◌+◌, ◌^◌, map, IfOk};
 ghost use Rattle.sweep_table.specs.Tables.{Table};
 ghost use Rattle.clause_list.specs.Ranges.{from_below};
 ghost use Rattle.clause_list.specs.Cones.{home, is_ahead_by, leads_home_by, ahead_after, home_before, has_marked};
@@ -7,7 +7,7 @@ ghost use Rattle.clause_list.specs.Cones.{home, is_ahead_by, leads_home_by, ahea
 use cell_net::Instance;
 use std::alloc::{AllocError, Global};
 use sweep_table::{Moves, SweepId};
-use vss_lists::Items;
+use vss_bits::Bits;
 
 /// Marks of what is ahead a step later; linear in the items and in what they may come after. The table is the one of
 /// that instance.
@@ -16,12 +16,11 @@ pub fn ahead_marks<M: Moves>(
     inst: &Instance,
     table: &M,
     may_enter: bool,
-    marks: &[bool],
-) -> Result<Vec<bool>, AllocError>
-    ensures { IfOk result (λ new. new.items ≡ ahead_after (M.table table.now inst.now) may_enter marks.now) }
+    marks: &Bits,
+) -> Result<Bits, AllocError>
+    ensures { IfOk result (λ new. new ≡ ahead_after (M.table table.now inst.now) may_enter marks.now) }
 {
-    let mut new = Vec::new(alloc);
-    new.reserve(table.len() as usize)?;
+    let mut new = Bits::with_room(alloc, table.len())?;
     for item in 0..table.len() {
         new.push(is_ahead(inst, table, may_enter, marks, item))?;
     }
@@ -29,13 +28,7 @@ pub fn ahead_marks<M: Moves>(
 }
 
 #[tactic(auto, unfolding(clause_list::specs::Cones::is_ahead_by))]
-fn is_ahead<M: Moves>(
-    inst: &Instance,
-    table: &M,
-    may_enter: bool,
-    marks: &[bool],
-    item: u32,
-) -> bool
+fn is_ahead<M: Moves>(inst: &Instance, table: &M, may_enter: bool, marks: &Bits, item: u32) -> bool
     requires { item < M.items table.now }
     ensures { result ≡ is_ahead_by (M.table table.now inst.now) may_enter marks.now item }
 {
@@ -47,12 +40,11 @@ pub fn home_marks<M: Moves>(
     alloc: Global,
     inst: &Instance,
     table: &M,
-    marks: &[bool],
-) -> Result<Vec<bool>, AllocError>
-    ensures { IfOk result (λ new. new.items ≡ home_before (M.table table.now inst.now) marks.now) }
+    marks: &Bits,
+) -> Result<Bits, AllocError>
+    ensures { IfOk result (λ new. new ≡ home_before (M.table table.now inst.now) marks.now) }
 {
-    let mut new = Vec::new(alloc);
-    new.reserve(table.len() as usize)?;
+    let mut new = Bits::with_room(alloc, table.len())?;
     for item in 0..table.len() {
         new.push(is_home(inst, table, marks, item))?;
     }
@@ -60,7 +52,7 @@ pub fn home_marks<M: Moves>(
 }
 
 #[tactic(auto, unfolding(clause_list::specs::Cones::leads_home_by))]
-fn is_home<M: Moves>(inst: &Instance, table: &M, marks: &[bool], item: u32) -> bool
+fn is_home<M: Moves>(inst: &Instance, table: &M, marks: &Bits, item: u32) -> bool
     requires { item < M.items table.now }
     ensures { result ≡ leads_home_by (M.table table.now inst.now) marks.now item }
 {
@@ -68,24 +60,19 @@ fn is_home<M: Moves>(inst: &Instance, table: &M, marks: &[bool], item: u32) -> b
 }
 
 // Whether one of the items is marked.
-fn is_any_marked(marks: &[bool], items: &[SweepId]) -> bool
+fn is_any_marked(marks: &Bits, items: &[SweepId]) -> bool
     ensures { result ≡ has_marked marks.now items.now }
 {
-    items.iter().any(|item| marks.get(item.0 as usize).copied().unwrap_or(false))
+    items.iter().any(|item| marks.get(item.0))
 }
 
 /// The marks of the entries.
-pub fn entry_marks<M: Moves>(
-    alloc: Global,
-    inst: &Instance,
-    table: &M,
-) -> Result<Vec<bool>, AllocError>
+pub fn entry_marks<M: Moves>(alloc: Global, inst: &Instance, table: &M) -> Result<Bits, AllocError>
     requires { M.is_made_for table.now inst.now }
-    ensures { IfOk result (λ marks. marks.items ≡ (M.table table.now inst.now).entries) }
+    ensures { IfOk result (λ marks. marks ≡ (M.table table.now inst.now).entries) }
 {
     let count = table.len();
-    let mut marks = Vec::new(alloc);
-    marks.reserve(count as usize)?;
+    let mut marks = Bits::with_room(alloc, count)?;
     for item in 0..count {
         marks.push(table.is_entry(SweepId(item)))?;
     }
@@ -93,17 +80,12 @@ pub fn entry_marks<M: Moves>(
 }
 
 /// The marks of the goals.
-pub fn goal_marks<M: Moves>(
-    alloc: Global,
-    inst: &Instance,
-    table: &M,
-) -> Result<Vec<bool>, AllocError>
+pub fn goal_marks<M: Moves>(alloc: Global, inst: &Instance, table: &M) -> Result<Bits, AllocError>
     requires { M.is_made_for table.now inst.now }
-    ensures { IfOk result (λ marks. marks.items ≡ (M.table table.now inst.now).goals) }
+    ensures { IfOk result (λ marks. marks ≡ (M.table table.now inst.now).goals) }
 {
     let count = table.len();
-    let mut marks = Vec::new(alloc);
-    marks.reserve(count as usize)?;
+    let mut marks = Bits::with_room(alloc, count)?;
     for item in 0..count {
         marks.push(table.is_goal(SweepId(item)))?;
     }
@@ -116,7 +98,7 @@ pub fn homes_of<M: Moves>(
     inst: &Instance,
     table: &M,
     last: u32,
-) -> Result<Vec<Items<bool>>, AllocError>
+) -> Result<Vec<Bits>, AllocError>
     requires made_for { M.is_made_for table.now inst.now }
     requires few { last < 400 }
     ensures { IfOk result (λ homes. homes.items ≡ map (home (M.table table.now inst.now)) (from_below 0 (last + 1))) }
@@ -125,9 +107,9 @@ pub fn homes_of<M: Moves>(
     let mut homes = Vec::new(alloc);
     for step in 0..last {
         let before = home_marks(alloc, inst, table, &marks)?;
-        homes.push(Items::from_vec(marks))?;
+        homes.push(marks)?;
         marks = before;
     }
-    homes.push(Items::from_vec(marks))?;
+    homes.push(marks)?;
     Ok(homes)
 }

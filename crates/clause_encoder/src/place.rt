@@ -1,11 +1,11 @@
 //! The place of an item in a rising list.
 ghost use Rattle.std.specs.Prelude.{◌≡◌, ◌<◌, length, slice_index, nat_eq, true, false, IsNone, OnSome, IfSome};
 ghost use Rattle.std.specs.List.{list_any};
-ghost use Rattle.clause_encoder.specs.TrainStore.{Rises};
+ghost use Rattle.clause_encoder.specs.TrainStore.{IsRising};
 
 /// The place of the item in a rising list, if it is there; logarithmic in the list.
 pub(crate) fn place_in(items: &[u32], item: u32) -> Option<usize>
-    requires { Rises items.now }
+    requires { IsRising items.now }
     ensures none { IsNone result → list_any (nat_eq item) items.now ≡ false }
     ensures some { OnSome result (list_any (nat_eq item) items.now ≡ true) }
     ensures place { IfSome result (λ place. (place < length items.now) × (slice_index items.now place ≡ item)) }

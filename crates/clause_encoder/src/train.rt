@@ -1,9 +1,9 @@
 //! The numbers of a train's variables.
 ghost use Rattle.std.specs.Prelude.{◌≡◌, ◌+◌, ◌-◌, ◌<◌, ◌≤◌, ◌^◌, ℕ, length, slice_index, nat_eq, min, max, true, false, IsNone, OnSome, IfSome};
 ghost use Rattle.std.specs.List.{list_any};
-ghost use Rattle.clause_list.specs.Numbers.{CodedTrain, cone, sweep, touch, ended, waits, beginnings, behind_train};
+ghost use Rattle.clause_list.specs.Numbers.{CodedTrain, cone, sweep, touch, run_ended, waits, beginnings, behind_train};
 ghost use Rattle.clause_list.specs.StopClauses.{stop_at, meets};
-ghost use Rattle.clause_encoder.specs.TrainStore.{Rises, IsKeptTrain, first_of_step, first_of_stop};
+ghost use Rattle.clause_encoder.specs.TrainStore.{IsRising, IsKeptTrain, first_of_step, first_of_stop};
 
 use crate::place::place_in;
 use cell_net::StopSpec;
@@ -87,7 +87,7 @@ impl TrainNumbers {
         requires after { self.now.start ≤ step }
         requires before { step ≤ self.now.by }
         ensures value { result.now ≡ cone self.now step }
-        ensures rising { Rises (cone self.now step) }
+        ensures rising { IsRising (cone self.now step) }
     {
         self.cones.row((step - self.start) as usize)
     }
@@ -130,7 +130,7 @@ impl TrainNumbers {
     pub fn ended(&self, step: u32) -> u32
         requires after { self.now.start < step }
         requires before { step ≤ self.now.by }
-        ensures { result ≡ ended self.now step }
+        ensures { result ≡ run_ended self.now step }
     {
         self.first_ended + (step - (self.start + 1))
     }

@@ -18,7 +18,7 @@ use Rattle.clause_list.specs.Numbers.{CodedTrain, cone, behind_train, first_of_t
 use Rattle.clause_list.specs.Cones.{ahead, home, is_in_both, cone_at}
 use Rattle.clause_list.specs.WholeList.{table_at, train_at, no_table}
 use Rattle.clause_list.specs.Coding.{network_of, coded, coded_from, trains_of, behind_all, first_of_count}
-use Rattle.clause_list.specs.Orders.{IsNumbered, FitsTable, AreOver, AreNumbered}
+use Rattle.clause_list.specs.Orders.{IsNumbered, FitsTable, AreOver, AreAllNumbered}
 use Rattle.clause_list.proofs.ListLaws.{length-below, at_below, range_rises}
 
 -- each number is below all later ones, where each is below the next
@@ -112,7 +112,7 @@ pub kept_over : (p : InstanceParts) → IsInstance p → AreOver (network_of p) 
 kept_over p rules k d within = (rules.kept.at_each k (get_or p.kept k d) (slice_get-get_or p.kept k d within)).in_range
 
 -- the numbers of an instance's trains are in order
-pub coded_are_numbered : (p : InstanceParts) (tables : List Table) (vars : ℕ) → IsInstance p → length tables ≡ length p.trains → All (IsTable p) tables → first_of_count p tables ≤ vars + 1 → AreNumbered vars (network_of p) tables (trains_of p tables)
+pub coded_are_numbered : (p : InstanceParts) (tables : List Table) (vars : ℕ) → IsInstance p → length tables ≡ length p.trains → All (IsTable p) tables → first_of_count p tables ≤ vars + 1 → AreAllNumbered vars (network_of p) tables (trains_of p tables)
 coded_are_numbered p tables vars rules same are last =
     let first : ℕ = first_of_trains (network_of p) in
     let trains : List CodedTrain = trains_of p tables in

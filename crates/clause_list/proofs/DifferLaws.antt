@@ -7,7 +7,7 @@ use Rattle.std.proofs.lemmas.List.Sums.{sum_by_more}
 use Rattle.std.proofs.Math.Nat.{mul-le-mul_right}
 use Rattle.clause_list.specs.Numbers.{CodedTrain, Network, cone, above, gap, sweep, touch, beginnings}
 use Rattle.clause_list.specs.StopClauses.{stop_at, meets, no_stop}
-use Rattle.clause_list.specs.Orders.{IsNumbered, AreNumbered, first_gap}
+use Rattle.clause_list.specs.Orders.{IsNumbered, AreAllNumbered, first_gap}
 use Rattle.clause_list.specs.WholeList.{train_at}
 use Rattle.clause_list.specs.Differing.{BordersDiffer, TrainDiffers, VariablesDiffer}
 use Rattle.sweep_table.specs.Tables.{Table}
@@ -144,7 +144,7 @@ borders_differ net = record {
   gaps_differ = λ d e f g within within_too one other same. gaps_are_one net d e f g within within_too one other same;
 }
 
-pub variables_differ : (vars : ℕ) (net : Network) (tables : List Table) (trains : List CodedTrain) → AreNumbered vars net tables trains → VariablesDiffer vars net trains
+pub variables_differ : (vars : ℕ) (net : Network) (tables : List Table) (trains : List CodedTrain) → AreAllNumbered vars net tables trains → VariablesDiffer vars net trains
 variables_differ vars net tables trains numbered = record {
   network = borders_differ net;
   of_train = λ i within. train_differs vars (train_at trains i) (numbered.each i within);

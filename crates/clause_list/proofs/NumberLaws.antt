@@ -6,7 +6,7 @@ use Rattle.std.proofs.lemmas.List.Sums.{sum_by_more_le, sum_by_more}
 use Rattle.std.proofs.Math.Nat.{mul-le-mul_right, le-max_left, le-max_right, min-le_left, min-le_right}
 use Rattle.cell_net.specs.declared.trains.StopSpec.{StopSpec}
 use Rattle.clause_list.specs.Ranges.{below}
-use Rattle.clause_list.specs.Numbers.{CodedTrain, Network, cone, sweep, sweeps_before, touch, ended, waits, beginnings, first_touch, first_ended, first_met, first_waits, behind_train, above, gap, gaps_below, first_of_trains}
+use Rattle.clause_list.specs.Numbers.{CodedTrain, Network, cone, sweep, sweeps_before, touch, run_ended, waits, beginnings, first_touch, first_ended, first_met, first_waits, behind_train, above, gap, gaps_below, first_of_trains}
 use Rattle.clause_list.specs.StopClauses.{stop_at, meets, no_stop}
 use Rattle.clause_list.specs.Orders.{IsNumbered}
 use Rattle.clause_list.proofs.ListLaws.{first_place, places_rise, in_range_is, length-from_below, length-below, below_take, at_below}
@@ -34,7 +34,7 @@ touch_bounds a t e h k few =
     let split : (t - a.start + 1) * a.cells ≡ (t - a.start) * a.cells + a.cells = omega arith in
     (omega arith, omega arith)
 
-pub ended_bounds : (a : CodedTrain) (t : ℕ) → a.start < t → t ≤ a.by → (first_ended a ≤ ended a t) × (ended a t < first_met a)
+pub ended_bounds : (a : CodedTrain) (t : ℕ) → a.start < t → t ≤ a.by → (first_ended a ≤ run_ended a t) × (run_ended a t < first_met a)
 ended_bounds a t h k = (omega arith, omega arith)
 
 -- the steps at which a stop can begin to be met are steps of the train, and so are all at which it then is

@@ -10,7 +10,7 @@ use Rattle.sat_core.specs.Clauses.{IsClause}
 use Rattle.sweep_table.specs.declared.ids.SweepId.{SweepId}
 use Rattle.sweep_table.specs.Tables.{Table, next_of, cells_of, is_entry, is_goal}
 use Rattle.clause_list.specs.Ranges.{from_below, from_to}
-use Rattle.clause_list.specs.Numbers.{CodedTrain, is, is_not, steps, cone, sweep, sweeps_before, touch, ended, waits, first_touch, behind_train}
+use Rattle.clause_list.specs.Numbers.{CodedTrain, is, is_not, steps, cone, sweep, sweeps_before, touch, run_ended, waits, first_touch, behind_train}
 use Rattle.clause_list.specs.RunClauses.{where_, enter, enter_clauses, followers, go_on, goes_on_at, go_on_clauses, stay_ended, stay_ended_clauses, gone, gone_at, gone_clauses, touching, touches_of, touches_at, touch_clauses}
 use Rattle.clause_list.specs.Orders.{IsNumbered, FitsTable}
 use Rattle.clause_list.proofs.ListLaws.{in_range_is, filter_is, is_there}
@@ -80,10 +80,10 @@ go_on_clause vars table a t w numbered fits h k inside =
     let (clause, behind, before) = followers_clause vars a (t + 1) (next_of table w) numbered (omega arith) (omega arith) (fits.next_rise w) in
     let (over, under) = ended_bounds a (t + 1) (omega arith) (omega arith) in
     let next : List Lit = followers a (t + 1) (next_of table w) in
-    let end : List Lit = where_ (is_goal table w) (is (ended a (t + 1))) in
+    let end : List Lit = where_ (is_goal table w) (is (run_ended a (t + 1))) in
     one_more vars (is_not (sweep a t w)) (next ++ end) (omega arith, omega arith)
-    (All-append (λ l. sweep a t w ≢ l.var.0) next end (λ i d within. let more : a.first + sweeps_before a (t + 1) ≤ (get_or next i d).var.0 = behind i d within in omega arith) (where_all (λ l. sweep a t w ≢ l.var.0) (is_goal table w) (is (ended a (t + 1))) (λ goal. omega arith)))
-    (both_clauses vars (first_touch a) next end clause (where_clause vars (is_goal table w) (is (ended a (t + 1))) (λ goal. (omega arith, omega arith))) before (where_all (λ l. first_touch a ≤ l.var.0) (is_goal table w) (is (ended a (t + 1))) (λ goal. omega arith)))
+    (All-append (λ l. sweep a t w ≢ l.var.0) next end (λ i d within. let more : a.first + sweeps_before a (t + 1) ≤ (get_or next i d).var.0 = behind i d within in omega arith) (where_all (λ l. sweep a t w ≢ l.var.0) (is_goal table w) (is (run_ended a (t + 1))) (λ goal. omega arith)))
+    (both_clauses vars (first_touch a) next end clause (where_clause vars (is_goal table w) (is (run_ended a (t + 1))) (λ goal. (omega arith, omega arith))) before (where_all (λ l. first_touch a ≤ l.var.0) (is_goal table w) (is (run_ended a (t + 1))) (λ goal. omega arith)))
 
 pub go_on_are_clauses : (vars : ℕ) (table : Table) (a : CodedTrain) → IsNumbered vars a → FitsTable table a → All (IsClause vars) (go_on_clauses table a)
 unfolding go_on_clauses goes_on_at
@@ -100,7 +100,7 @@ stay_ended_are_clauses vars a numbered =
     let (h, k) = in_range_is (a.start + 1) a.by t step in
     let (low, high) = ended_bounds a t (omega arith) (omega arith) in
     let (low_too, high_too) = ended_bounds a (t + 1) (omega arith) (omega arith) in
-    two_literals vars (is_not (ended a t)) (is (ended a (t + 1))) (omega arith, omega arith) (omega arith, omega arith) (omega arith)))
+    two_literals vars (is_not (run_ended a t)) (is (run_ended a (t + 1))) (omega arith, omega arith) (omega arith, omega arith) (omega arith)))
 
 pub gone_are_clauses : (vars : ℕ) (a : CodedTrain) → IsNumbered vars a → All (IsClause vars) (gone_clauses a)
 unfolding gone_clauses gone_at gone
@@ -111,7 +111,7 @@ gone_are_clauses vars a numbered =
     let one : 1 ≤ a.first = numbered.from_one in
     let (low, high) = ended_bounds a t (omega arith) (omega arith) in
     let (from, end, least, most) = sweep_bounds vars a t w numbered (omega arith) (omega arith) inside in
-    two_literals vars (is_not (ended a t)) (is_not (sweep a t w)) (omega arith, omega arith) (omega arith, omega arith) (omega arith))))
+    two_literals vars (is_not (run_ended a t)) (is_not (sweep a t w)) (omega arith, omega arith) (omega arith, omega arith) (omega arith))))
 
 pub touch_are_clauses : (vars : ℕ) (table : Table) (a : CodedTrain) → IsNumbered vars a → FitsTable table a → All (IsClause vars) (touch_clauses table a)
 unfolding touch_clauses touches_at touches_of touching

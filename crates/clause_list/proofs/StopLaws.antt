@@ -6,8 +6,8 @@ use Rattle.std.proofs.lemmas.List.Elements.{Contains-get_or}
 use Rattle.sat_core.specs.Clauses.{IsClause}
 use Rattle.sweep_table.specs.Tables.{Table, stands_in}
 use Rattle.clause_list.specs.Ranges.{from_below}
-use Rattle.clause_list.specs.Numbers.{CodedTrain, is_not, cone, sweep, ended, waits, beginnings, behind_train}
-use Rattle.clause_list.specs.StopClauses.{stop_at, stop_places, meets, last_of, stop_met, stop_met_clauses, stop_in_run, stops_in_run, stop_in_run_clauses, not_standing, stand, stands_at, stands_from, stands_while, stand_clauses, entered, entered_before, stop_after_entry_clauses}
+use Rattle.clause_list.specs.Numbers.{CodedTrain, is_not, cone, sweep, run_ended, waits, beginnings, behind_train}
+use Rattle.clause_list.specs.StopClauses.{stop_at, stop_places, meets, last_of_stop, stop_met, stop_met_clauses, stop_in_run, stops_in_run, stop_in_run_clauses, not_standing, stand, stands_at, stands_from, stands_while, stand_clauses, entered, entered_before, stop_after_entry_clauses}
 use Rattle.clause_list.specs.Orders.{IsNumbered}
 use Rattle.clause_list.proofs.ListLaws.{in_range_is, filter_is, range_rises}
 use Rattle.clause_list.proofs.ClauseLaws.{two_literals, items_clause, all_each, all_one}
@@ -34,15 +34,15 @@ pub stop_in_run_are_clauses : (vars : ℕ) (a : CodedTrain) → IsNumbered vars 
 unfolding stop_in_run_clauses stops_in_run stop_in_run
 stop_in_run_are_clauses vars a numbered =
     all_each (IsClause vars) (stops_in_run a) (stop_places a) (λ i stop.
-    all_each (IsClause vars) (λ s. stop_in_run a i s ∷ []) (filter (λ s. nat_lt a.start (last_of a i s)) (beginnings a (stop_at a i))) (λ s kept. all_one (IsClause vars) (stop_in_run a i s) (
+    all_each (IsClause vars) (λ s. stop_in_run a i s ∷ []) (filter (λ s. nat_lt a.start (last_of_stop a i s)) (beginnings a (stop_at a i))) (λ s kept. all_one (IsClause vars) (stop_in_run a i s) (
     let within : behind_train a ≤ vars + 1 = numbered.within in
     let one : 1 ≤ a.first = numbered.from_one in
-    let (test, inside) = filter_is (λ s. nat_lt a.start (last_of a i s)) (beginnings a (stop_at a i)) s kept in
-    let after : a.start < last_of a i s = ltb-true a.start (last_of a i s) test in
+    let (test, inside) = filter_is (λ s. nat_lt a.start (last_of_stop a i s)) (beginnings a (stop_at a i)) s kept in
+    let after : a.start < last_of_stop a i s = ltb-true a.start (last_of_stop a i s) test in
     let (first, start, from, by, until, place) = beginning_is a (stop_at a i) s inside in
     let (low, high) = met_bounds a i s (place_within a i stop) inside in
-    let (over, under) = ended_bounds a (last_of a i s) after (omega arith) in
-    two_literals vars (is_not (meets a i s)) (is_not (ended a (last_of a i s))) (omega arith, omega arith) (omega arith, omega arith) (omega arith))))
+    let (over, under) = ended_bounds a (last_of_stop a i s) after (omega arith) in
+    two_literals vars (is_not (meets a i s)) (is_not (run_ended a (last_of_stop a i s))) (omega arith, omega arith) (omega arith, omega arith) (omega arith))))
 
 stand_clause : (vars : ℕ) (a : CodedTrain) (i s t w : ℕ) → IsNumbered vars a → i < length a.stops → Contains (beginnings a (stop_at a i)) s → s ≤ t → t < s + (stop_at a i).dwell → Contains (cone a t) w → IsClause vars (stand a i s t w)
 unfolding stand

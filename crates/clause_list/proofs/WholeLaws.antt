@@ -13,7 +13,7 @@ use Rattle.clause_list.specs.RunClauses.{enter_clauses, go_on_clauses, stay_ende
 use Rattle.clause_list.specs.StopClauses.{stop_met_clauses, stop_in_run_clauses, stand_clauses, stop_after_entry_clauses}
 use Rattle.clause_list.specs.BorderClauses.{kept_clauses, given_clauses, gap_clauses}
 use Rattle.clause_list.specs.WholeList.{table_at, train_at, of_train, of_each_train, by_train, by_each_train, apart_of_two, apart_of, apart_of_all, plan_families, base_families, given_families, whole}
-use Rattle.clause_list.specs.Orders.{AreNumbered, AreWalksOver}
+use Rattle.clause_list.specs.Orders.{AreAllNumbered, AreWalksOver}
 use Rattle.clause_list.proofs.ListLaws.{in_range_is}
 use Rattle.clause_list.proofs.ClauseLaws.{all_each}
 use Rattle.clause_list.proofs.RunLaws.{enter_are_clauses, go_on_are_clauses, stay_ended_are_clauses, gone_are_clauses, touch_are_clauses}
@@ -30,7 +30,7 @@ unfolding by_each_train by_train
 each_numbers vars family trains each = all_each (IsClause vars) (by_train family trains) (below (length trains)) (λ i inside. each i (in_range_is 0 (length trains) i inside).1)
 
 -- of every two trains
-pub all_apart_are_clauses : (vars : ℕ) (net : Network) (tables : List Table) (trains : List CodedTrain) → AreNumbered vars net tables trains → All (IsClause vars) (apart_of_all net trains)
+pub all_apart_are_clauses : (vars : ℕ) (net : Network) (tables : List Table) (trains : List CodedTrain) → AreAllNumbered vars net tables trains → All (IsClause vars) (apart_of_all net trains)
 unfolding apart_of_all apart_of apart_of_two
 all_apart_are_clauses vars net tables trains numbered =
     all_each (IsClause vars) (apart_of net trains) (below (length trains)) (λ i one.
@@ -42,7 +42,7 @@ both : {A : Type 0} (P : A → Type 0) (family : List A) (families : List (List 
 both P family families one others = All-append P family (flat_map (λ each. each) families) one others
 
 -- the families of gaps and trains
-pub plan_are_clauses : (vars : ℕ) (walks : ℕ → ℕ → List (List CandidateId)) (net : Network) (tables : List Table) (trains : List CodedTrain) → AreNumbered vars net tables trains → AreWalksOver net walks → All (IsClause vars) (whole (plan_families walks net tables trains))
+pub plan_are_clauses : (vars : ℕ) (walks : ℕ → ℕ → List (List CandidateId)) (net : Network) (tables : List Table) (trains : List CodedTrain) → AreAllNumbered vars net tables trains → AreWalksOver net walks → All (IsClause vars) (whole (plan_families walks net tables trains))
 plan_are_clauses vars walks net tables trains numbered over =
     let each = numbered.each in
     let fit = numbered.fit in
@@ -73,11 +73,11 @@ few_borders : (vars : ℕ) (net : Network) → first_of_trains net ≤ vars + 1 
 few_borders vars net last = omega arith
 
 -- of a free task, but for its counter and its bound
-pub base_are_clauses : (vars : ℕ) (walks : ℕ → ℕ → List (List CandidateId)) (net : Network) (tables : List Table) (trains : List CodedTrain) → AreNumbered vars net tables trains → AreWalksOver net walks → All (IsClause vars) (whole (base_families walks net tables trains))
+pub base_are_clauses : (vars : ℕ) (walks : ℕ → ℕ → List (List CandidateId)) (net : Network) (tables : List Table) (trains : List CodedTrain) → AreAllNumbered vars net tables trains → AreWalksOver net walks → All (IsClause vars) (whole (base_families walks net tables trains))
 base_are_clauses vars walks net tables trains numbered over =
     both (IsClause vars) (kept_clauses net) (plan_families walks net tables trains) (kept_are_clauses vars net (few_borders vars net numbered.borders) numbered.kept) (plan_are_clauses vars walks net tables trains numbered over)
 
 -- of the task of a given layout
-pub given_task_are_clauses : (vars : ℕ) (walks : ℕ → ℕ → List (List CandidateId)) (net : Network) (tables : List Table) (trains : List CodedTrain) (layout : List CandidateId) → AreNumbered vars net tables trains → AreWalksOver net walks → All (IsClause vars) (whole (given_families walks net tables trains layout))
+pub given_task_are_clauses : (vars : ℕ) (walks : ℕ → ℕ → List (List CandidateId)) (net : Network) (tables : List Table) (trains : List CodedTrain) (layout : List CandidateId) → AreAllNumbered vars net tables trains → AreWalksOver net walks → All (IsClause vars) (whole (given_families walks net tables trains layout))
 given_task_are_clauses vars walks net tables trains layout numbered over =
     both (IsClause vars) (given_clauses net layout) (plan_families walks net tables trains) (given_are_clauses vars net layout (few_borders vars net numbered.borders)) (plan_are_clauses vars walks net tables trains numbered over)

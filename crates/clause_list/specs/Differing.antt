@@ -1,6 +1,6 @@
 -- That the variables of a task differ: what each number is for.
 use Rattle.std.specs.Prelude.{◌≡◌, ◌<◌, ◌≤◌, ◌+◌, ℕ, List, length, Contains}
-use Rattle.clause_list.specs.Numbers.{CodedTrain, Network, cone, above, border, gap, sweep, touch, ended, waits, beginnings, first_of_trains, first_touch, first_ended, first_met, first_waits, behind_train}
+use Rattle.clause_list.specs.Numbers.{CodedTrain, Network, cone, above, border, gap, sweep, touch, run_ended, waits, beginnings, first_of_trains, first_touch, first_ended, first_met, first_waits, behind_train}
 use Rattle.clause_list.specs.StopClauses.{stop_at, meets}
 use Rattle.clause_list.specs.WholeList.{train_at}
 
@@ -19,12 +19,12 @@ pub record BordersDiffer (net : Network) : Type 0 where
 pub record TrainDiffers (a : CodedTrain) : Type 0 where
   pub sweeps : (t w : ℕ) → a.start ≤ t → t ≤ a.by → Contains (cone a t) w → IsFrom a.first (first_touch a) (sweep a t w)
   pub touches : (t e : ℕ) → a.start ≤ t → t ≤ a.by → e < a.cells → IsFrom (first_touch a) (first_ended a) (touch a t e)
-  pub ends : (t : ℕ) → a.start < t → t ≤ a.by → IsFrom (first_ended a) (first_met a) (ended a t)
+  pub ends : (t : ℕ) → a.start < t → t ≤ a.by → IsFrom (first_ended a) (first_met a) (run_ended a t)
   pub mets : (i s : ℕ) → i < length a.stops → Contains (beginnings a (stop_at a i)) s → IsFrom (first_met a) (first_waits a) (meets a i s)
   pub waiting : (t : ℕ) → a.start ≤ t → t < a.latest → IsFrom (first_waits a) (behind_train a) (waits a t)
   pub sweeps_differ : (t u v w : ℕ) → a.start ≤ t → t ≤ a.by → a.start ≤ u → u ≤ a.by → Contains (cone a t) v → Contains (cone a u) w → sweep a t v ≡ sweep a u w → (t ≡ u) × (v ≡ w)
   pub touches_differ : (t u e f : ℕ) → a.start ≤ t → t ≤ a.by → a.start ≤ u → u ≤ a.by → e < a.cells → f < a.cells → touch a t e ≡ touch a u f → (t ≡ u) × (e ≡ f)
-  pub ends_differ : (t u : ℕ) → a.start < t → a.start < u → ended a t ≡ ended a u → t ≡ u
+  pub ends_differ : (t u : ℕ) → a.start < t → a.start < u → run_ended a t ≡ run_ended a u → t ≡ u
   pub mets_differ : (i j s u : ℕ) → i < length a.stops → j < length a.stops → Contains (beginnings a (stop_at a i)) s → Contains (beginnings a (stop_at a j)) u → meets a i s ≡ meets a j u → (i ≡ j) × (s ≡ u)
   pub waiting_differs : (t u : ℕ) → a.start ≤ t → a.start ≤ u → waits a t ≡ waits a u → t ≡ u
 

@@ -51,8 +51,8 @@ touch a t e = first_touch a + (t - a.start) * a.cells + e
 abbrev pub first_ended : CodedTrain → ℕ
 first_ended a = first_touch a + (a.by + 1 - a.start) * a.cells
 
-abbrev pub ended : CodedTrain → ℕ → ℕ
-ended a t = first_ended a + (t - (a.start + 1))
+abbrev pub run_ended : CodedTrain → ℕ → ℕ
+run_ended a t = first_ended a + (t - (a.start + 1))
 
 -- the steps at which the train may begin to meet a stop
 abbrev pub beginnings : CodedTrain → StopSpec → List ℕ

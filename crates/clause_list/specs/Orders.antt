@@ -44,7 +44,7 @@ pub record AreWalksOver (net : Network) (walks : ℕ → ℕ → List (List Cand
   pub rise : (e f : ℕ) → e < length net.sections → Contains (above net e) f → All (AllPairs (λ b c. b.0 < c.0)) (walks e f)
 
 -- what holds of the numbers of all trains: those of each are behind those of the network and of the trains before it
-pub record AreNumbered (vars : ℕ) (net : Network) (tables : List Table) (trains : List CodedTrain) : Type 0 where
+pub record AreAllNumbered (vars : ℕ) (net : Network) (tables : List Table) (trains : List CodedTrain) : Type 0 where
   pub borders : first_of_trains net ≤ vars + 1
   pub kept : AreOver net net.kept
   pub each : (i : ℕ) → i < length trains → IsNumbered vars (train_at trains i)

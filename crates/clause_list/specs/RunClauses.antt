@@ -6,7 +6,7 @@ use Rattle.cell_net.specs.declared.cells.DirCell.{DirCell}
 use Rattle.sweep_table.specs.declared.ids.SweepId.{SweepId}
 use Rattle.sweep_table.specs.Tables.{Table, cells_of, next_of, is_entry, is_goal}
 use Rattle.clause_list.specs.Ranges.{one_each, from_below, from_to}
-use Rattle.clause_list.specs.Numbers.{CodedTrain, is, is_not, steps, cone, sweep, touch, ended, waits}
+use Rattle.clause_list.specs.Numbers.{CodedTrain, is, is_not, steps, cone, sweep, touch, run_ended, waits}
 
 -- the literal, if the test holds
 abbrev pub where_ : Bool → Lit → List Lit
@@ -25,7 +25,7 @@ followers a t items = map (λ v. is (sweep a t v.0)) (filter (λ v. list_any (na
 
 -- Go on: after an item comes one of those that may, or it is a goal and the run ends.
 unfoldable pub go_on : Table → CodedTrain → ℕ → ℕ → List Lit
-go_on table a t w = is_not (sweep a t w) ∷ followers a (t + 1) (next_of table w) ++ where_ (is_goal table w) (is (ended a (t + 1)))
+go_on table a t w = is_not (sweep a t w) ∷ followers a (t + 1) (next_of table w) ++ where_ (is_goal table w) (is (run_ended a (t + 1)))
 
 unfoldable pub goes_on_at : Table → CodedTrain → ℕ → List (List Lit)
 goes_on_at table a t = one_each (go_on table a t) (cone a t)
@@ -35,14 +35,14 @@ go_on_clauses table a = flat_map (goes_on_at table a) (from_below a.start a.by)
 
 -- Stay ended: an ended run stays ended.
 unfoldable pub stay_ended : CodedTrain → ℕ → List Lit
-stay_ended a t = is_not (ended a t) ∷ is (ended a (t + 1)) ∷ []
+stay_ended a t = is_not (run_ended a t) ∷ is (run_ended a (t + 1)) ∷ []
 
 unfoldable pub stay_ended_clauses : CodedTrain → List (List Lit)
 stay_ended_clauses a = one_each (stay_ended a) (from_below (a.start + 1) a.by)
 
 -- Gone: an ended run has no item.
 unfoldable pub gone : CodedTrain → ℕ → ℕ → List Lit
-gone a t w = is_not (ended a t) ∷ is_not (sweep a t w) ∷ []
+gone a t w = is_not (run_ended a t) ∷ is_not (sweep a t w) ∷ []
 
 unfoldable pub gone_at : CodedTrain → ℕ → List (List Lit)
 gone_at a t = one_each (gone a t) (cone a t)

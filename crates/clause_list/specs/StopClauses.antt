@@ -5,7 +5,7 @@ use Rattle.sat_core.specs.declared.literal.Lit.{Lit}
 use Rattle.cell_net.specs.declared.trains.StopSpec.{StopSpec}
 use Rattle.sweep_table.specs.Tables.{Table, stands_in}
 use Rattle.clause_list.specs.Ranges.{one_each, below, from_below}
-use Rattle.clause_list.specs.Numbers.{CodedTrain, is, is_not, cone, sweep, ended, beginnings, met, waits}
+use Rattle.clause_list.specs.Numbers.{CodedTrain, is, is_not, cone, sweep, run_ended, beginnings, met, waits}
 
 -- stands for a stop where there is none
 abbrev pub no_stop : StopSpec
@@ -31,15 +31,15 @@ unfoldable pub stop_met_clauses : CodedTrain → List (List Lit)
 stop_met_clauses a = one_each (stop_met a) (stop_places a)
 
 -- the last step of a stop that begins at a step
-abbrev pub last_of : CodedTrain → ℕ → ℕ → ℕ
-last_of a i s = s + (stop_at a i).dwell - 1
+abbrev pub last_of_stop : CodedTrain → ℕ → ℕ → ℕ
+last_of_stop a i s = s + (stop_at a i).dwell - 1
 
 -- Not ended while stopping: at the last step of a stop the run has not ended.
 unfoldable pub stop_in_run : CodedTrain → ℕ → ℕ → List Lit
-stop_in_run a i s = is_not (meets a i s) ∷ is_not (ended a (last_of a i s)) ∷ []
+stop_in_run a i s = is_not (meets a i s) ∷ is_not (run_ended a (last_of_stop a i s)) ∷ []
 
 unfoldable pub stops_in_run : CodedTrain → ℕ → List (List Lit)
-stops_in_run a i = one_each (stop_in_run a i) (filter (λ s. nat_lt a.start (last_of a i s)) (beginnings a (stop_at a i)))
+stops_in_run a i = one_each (stop_in_run a i) (filter (λ s. nat_lt a.start (last_of_stop a i s)) (beginnings a (stop_at a i)))
 
 unfoldable pub stop_in_run_clauses : CodedTrain → List (List Lit)
 stop_in_run_clauses a = flat_map (stops_in_run a) (stop_places a)

@@ -6,7 +6,7 @@ use Rattle.std.proofs.lemmas.List.Elements.{All-filter, All-push}
 use Rattle.cell_net.specs.declared.parts.InstanceParts.{InstanceParts}
 use Rattle.sweep_table.specs.declared.ids.SweepId.{SweepId}
 use Rattle.sweep_table.specs.Tables.{Table, IsTable, is_entry, next_of}
-use Rattle.clause_list.specs.Numbers.{CodedTrain, cone, sweep, ended, waits}
+use Rattle.clause_list.specs.Numbers.{CodedTrain, cone, sweep, run_ended, waits}
 use Rattle.clause_list.specs.Values.{value}
 use Rattle.plan_laws.specs.Telling.{no_item, is_told, is_told_entry, entry_at, first_told, first_step, follow}
 
@@ -16,7 +16,7 @@ pub record IsFollowed (values : List Bool) (table : Table) (a : CodedTrain) (who
   pub rest : whole ≡ items ++ follow values table a (a.by - now) now last
   pub inside : All (λ (v : SweepId). v.0 < count) items
 
-pub ends_here : (values : List Bool) (table : Table) (a : CodedTrain) (whole items : List SweepId) (now : ℕ) (last : SweepId) (count : ℕ) → IsFollowed values table a whole items now last count → now < a.by → value values (ended a (now + 1)) ≡ true → whole ≡ items
+pub ends_here : (values : List Bool) (table : Table) (a : CodedTrain) (whole items : List SweepId) (now : ℕ) (last : SweepId) (count : ℕ) → IsFollowed values table a whole items now last count → now < a.by → value values (run_ended a (now + 1)) ≡ true → whole ≡ items
 ends_here values table a whole items now last count followed h over =
     let step : a.by - now ≡ suc (a.by - (now + 1)) = omega arith in
     let none : follow values table a (a.by - now) now last ≡ [] = rw step (rw over refl) in
@@ -30,7 +30,7 @@ head_below (x ∷ xs) n all h = all 0 no_item (omega arith)
 pub told_below : (values : List Bool) (a : CodedTrain) (t : ℕ) (items : List SweepId) (n : ℕ) → All (λ (v : SweepId). v.0 < n) items → 0 < n → (first_told values a t items).0 < n
 told_below values a t items n all h = head_below (filter (λ (v : SweepId). is_told values a t v.0) items) n (All-filter (λ (v : SweepId). is_told values a t v.0) (λ (v : SweepId). v.0 < n) items all) h
 
-pub goes_on_here : (values : List Bool) (table : Table) (a : CodedTrain) (whole items more : List SweepId) (now : ℕ) (last next : SweepId) (count : ℕ) → IsFollowed values table a whole items now last count → now < a.by → value values (ended a (now + 1)) ≡ false → next ≡ first_told values a (now + 1) (next_of table last.0) → All (λ (v : SweepId). v.0 < count) (next_of table last.0) → more ≡ items ++ next ∷ [] → IsFollowed values table a whole more (now + 1) next count
+pub goes_on_here : (values : List Bool) (table : Table) (a : CodedTrain) (whole items more : List SweepId) (now : ℕ) (last next : SweepId) (count : ℕ) → IsFollowed values table a whole items now last count → now < a.by → value values (run_ended a (now + 1)) ≡ false → next ≡ first_told values a (now + 1) (next_of table last.0) → All (λ (v : SweepId). v.0 < count) (next_of table last.0) → more ≡ items ++ next ∷ [] → IsFollowed values table a whole more (now + 1) next count
 goes_on_here values table a whole items more now last next count followed h on is_next inside longer =
     let step : a.by - now ≡ suc (a.by - (now + 1)) = omega arith in
     let first : SweepId = first_told values a (now + 1) (next_of table last.0) in

@@ -1,7 +1,6 @@
 -- Steps of the loops over trains, and what the laws say of what is decoded.
 use Rattle.std.proofs.Common.{◌≡◌, ℕ, ◌+◌, ◌-◌, ◌<◌, ◌≤◌, Bool, true, List, [], ◌∷◌, ◌++◌, length, get_or, map, refl, sym, ap, ◌∙◌, subst, ⊎_elim, arith}
-use Rattle.std.specs.Prelude.{All, Contains, ◌↔◌}
-use Rattle.std.proofs.lemmas.Bool.{cases_lt}
+use Rattle.std.specs.Prelude.{Contains, ◌↔◌}
 use Rattle.std.proofs.lemmas.List.{get_or-map, length-map}
 use Rattle.std.proofs.lemmas.List.FromFn.{map-range_with_len_more}
 use Rattle.cell_net.specs.Rules.{IsInstance}
@@ -9,7 +8,7 @@ use Rattle.cell_net.specs.declared.ids.CandidateId.{CandidateId}
 use Rattle.cell_net.specs.declared.plans.Plan.{Plan}
 use Rattle.cell_net.specs.declared.plans.TrainRun.{TrainRun}
 use Rattle.cell_net.specs.declared.parts.InstanceParts.{InstanceParts}
-use Rattle.sweep_table.specs.Tables.{Table, IsTable}
+use Rattle.sweep_table.specs.Tables.{Table}
 use Rattle.clause_list.specs.Coding.{trains_of}
 use Rattle.clause_list.specs.Numbers.{CodedTrain, border}
 use Rattle.clause_list.specs.Ranges.{from_below, below}
@@ -43,14 +42,6 @@ unfolding told_run_of
 one_run table values p xs trains i x a run within is numbers told =
     told ∙ ap (λ t. told_run values t a) (sym (table_is table p xs i x within is)) ∙ ap (told_run values (table_at (tables_of table p xs) i)) numbers
 
--- the rules of the tables so far
-pub rules_more : {X : Type 0} (table : X → InstanceParts → Table) (p : InstanceParts) (xs : List X) (n : ℕ) (x : X) → ((k : ℕ) (d : Table) → k < n → IsTable p (get_or (tables_of table p xs) k d)) → n < length xs → x ≡ get_or xs n x → IsTable p (table x p) → (k : ℕ) (d : Table) → k < n + 1 → IsTable p (get_or (tables_of table p xs) k d)
-rules_more table p xs n x before within is keeps k d h = ⊎_elim
-    (λ less. before k d less)
-    (λ not_less. let last : n ≡ k = omega arith in
-    subst (λ j. IsTable p (get_or (tables_of table p xs) j d)) last (subst (IsTable p) (sym (get_or-map (table_over table p) xs n x d within ∙ ap (table_over table p) (sym is))) keeps))
-    (cases_lt k n)
-
 pub size_of : {X : Type 0} (table : X → InstanceParts → Table) (p : InstanceParts) (xs : List X) → length (tables_of table p xs) ≡ length xs
 size_of table p xs = length-map xs (table_over table p)
 
@@ -82,7 +73,3 @@ borders_are values seen n layout c same is = subst (λ l. Contains l c ↔ (c.0 
 
 pub few_borders : (values seen : List Bool) (p : InstanceParts) (tables : List Table) (most : ℕ) (layout : List CandidateId) → CountTells values p tables most → seen ≡ values → layout ≡ told_layout seen (length p.candidates) → SatisfiesCount p tables most values → length layout ≤ most
 few_borders values seen p tables most layout law same is sat = subst (λ l. length l ≤ most) (sym (is ∙ ap (λ vs. told_layout vs (length p.candidates)) same)) (law sat.variables sat.few sat.counter sat.bound)
-
--- the table of a place is made for the instance
-pub made_at : {X : Type 0} (made : X → InstanceParts → Type 0) (p : InstanceParts) (xs : List X) (n : ℕ) (x : X) → All (λ y. made y p) xs → n < length xs → x ≡ get_or xs n x → made x p
-made_at made p xs n x all within is = subst (λ y. made y p) (sym is) (all n x within)

@@ -1,8 +1,7 @@
 //! The decoder: from a valuation to a layout and a plan.
-ghost use Rattle.std.specs.Prelude.{◌≡◌, ◌<◌, ◌≤◌, ◌↔◌, ℕ, List, true, length, All, Contains, IfOk};
+ghost use Rattle.std.specs.Prelude.{◌≡◌, ◌<◌, ◌≤◌, ◌↔◌, ℕ, List, true, length, Contains, IfOk};
 ghost use Rattle.cell_net.specs.Plans.{IsLawful};
 ghost use Rattle.cell_net.specs.declared.ids.CandidateId.{CandidateId};
-ghost use Rattle.sweep_table.specs.Tables.{IsTable};
 ghost use Rattle.clause_list.specs.Numbers.{border};
 ghost use Rattle.clause_list.specs.Values.{value};
 ghost use Rattle.clause_encoder.specs.Maps.{IsMapOf};
@@ -14,7 +13,7 @@ ghost use Rattle.plan_decoder.specs.Decoding.{kept_tables, KeepsTables, Satisfie
 use crate::layout::layout_of;
 use crate::plan::plan_of;
 use cell_net::{Instance, Layout, Plan};
-use clause_encoder::VarMap;
+use clause_encoder::{VarMap, know_tables};
 use plan_laws::{chains_are_lawful, counts_bound_layouts, valuations_tell_chains};
 use sat_core::Valuation;
 use std::alloc::{AllocError, Global};
@@ -43,7 +42,7 @@ pub fn decode_over<M: Moves>(
     ensures count { (most : ℕ) → SatisfiesCount inst.now (tables_of M.table inst.now tables.now) most valuation.now.values → IfOk result (λ found. length found.0 ≤ most) }
 {
     let _parts = inst.parts();
-    rules_of(inst, tables);
+    know_tables(inst, tables);
     valuations_tell_chains();
     counts_bound_layouts();
     let values = valuation.values.as_slice();
@@ -69,14 +68,4 @@ pub fn decode(
 {
     chains_are_lawful();
     decode_over(alloc, inst, map.tables(), map, valuation)
-}
-
-/// Asks each table for its length, and so shows the rules that it keeps.
-fn rules_of<M: Moves>(inst: &Instance, tables: &[M])
-    requires { AreMadeFor M.is_made_for inst.now tables.now }
-    ensures { All (IsTable inst.now) (tables_of M.table inst.now tables.now) }
-{
-    for place in 0..tables.len() {
-        let _count = tables[place].len();
-    }
 }

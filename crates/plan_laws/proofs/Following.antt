@@ -8,7 +8,7 @@ use Rattle.std.proofs.lemmas.Map.Views.{Contains-from_any}
 use Rattle.sat_core.specs.Clauses.{Satisfies, SatisfiesAll}
 use Rattle.sweep_table.specs.declared.ids.SweepId.{SweepId}
 use Rattle.sweep_table.specs.Tables.{Table, next_of, is_goal}
-use Rattle.clause_list.specs.Numbers.{CodedTrain, is, cone, sweep, ended}
+use Rattle.clause_list.specs.Numbers.{CodedTrain, is, cone, sweep, run_ended}
 use Rattle.clause_list.specs.RunClauses.{go_on, goes_on_at, go_on_clauses, gone, gone_at, gone_clauses, followers, where_}
 use Rattle.clause_list.specs.Values.{value}
 use Rattle.clause_list.proofs.ListLaws.{filter_is}
@@ -23,7 +23,7 @@ pub record IsThere (values : List Bool) (a : CodedTrain) (t w : ℕ) : Type 0 wh
 -- what comes after: an item that may and is there a step later; or the item is a goal, and the run ends
 unfoldable pub GoesOn : List Bool → Table → CodedTrain → ℕ → ℕ → Type 0
 GoesOn values table a t w = ((v : SweepId) × Contains (next_of table w) v × (is_told values a (t + 1) v.0 ≡ true))
-    ⊎ ((is_goal table w ≡ true) × (value values (ended a (t + 1)) ≡ true))
+    ⊎ ((is_goal table w ≡ true) × (value values (run_ended a (t + 1)) ≡ true))
 
 -- where one of the items passes a test, the first of those that pass is one of them and passes
 pub first_passes : {X : Type 0} (test : X → Bool) (items : List X) (v d : X) → Contains items v → test v ≡ true → Contains items (get_or (filter test items) 0 d) × (test (get_or (filter test items) 0 d) ≡ true)
@@ -48,20 +48,20 @@ pub go_on_says : (values : List Bool) (table : Table) (a : CodedTrain) (t w : �
 unfolding GoesOn go_on_clauses goes_on_at go_on
 go_on_says values table a t w all h k there =
     let clause : Satisfies values (go_on table a t w) = sat_head values (go_on table a t w) [] (sat_each values (λ v. go_on table a t v ∷ []) (cone a t) w (sat_range values (goes_on_at table a) a.start a.by t all h k) there.in_cone) in
-    let rest = sat_rest values (sweep a t w) (followers a (t + 1) (next_of table w) ++ where_ (is_goal table w) (is (ended a (t + 1)))) clause there.is_true in
+    let rest = sat_rest values (sweep a t w) (followers a (t + 1) (next_of table w) ++ where_ (is_goal table w) (is (run_ended a (t + 1)))) clause there.is_true in
     ⊎_elim (λ some. inl (followers_any values a (t + 1) (next_of table w) some))
-    (λ goal. let (is_one, holds) = sat_where values (is_goal table w) (is (ended a (t + 1))) goal in inr (is_one, true_value values (ended a (t + 1)) holds))
-    (sat_append values (followers a (t + 1) (next_of table w)) (where_ (is_goal table w) (is (ended a (t + 1)))) rest)
+    (λ goal. let (is_one, holds) = sat_where values (is_goal table w) (is (run_ended a (t + 1))) goal in inr (is_one, true_value values (run_ended a (t + 1)) holds))
+    (sat_append values (followers a (t + 1) (next_of table w)) (where_ (is_goal table w) (is (run_ended a (t + 1)))) rest)
 
-pub gone_says : (values : List Bool) (a : CodedTrain) (t w : ℕ) → SatisfiesAll values (gone_clauses a) → a.start < t → t ≤ a.by → IsThere values a t w → value values (ended a t) ≡ true → ⊥
+pub gone_says : (values : List Bool) (a : CodedTrain) (t w : ℕ) → SatisfiesAll values (gone_clauses a) → a.start < t → t ≤ a.by → IsThere values a t w → value values (run_ended a t) ≡ true → ⊥
 unfolding gone_clauses gone_at gone
 gone_says values a t w all h k there over =
-    sat_not_both values (ended a t) (sweep a t w) (sat_head values (gone a t w) [] (sat_each values (λ v. gone a t v ∷ []) (cone a t) w (sat_range values (gone_at a) (a.start + 1) (a.by + 1) t all (omega arith) (omega arith)) there.in_cone)) over there.is_true
+    sat_not_both values (run_ended a t) (sweep a t w) (sat_head values (gone a t w) [] (sat_each values (λ v. gone a t v ∷ []) (cone a t) w (sat_range values (gone_at a) (a.start + 1) (a.by + 1) t all (omega arith) (omega arith)) there.in_cone)) over there.is_true
 
 -- the items from an item at a step on are those that are told: each is there, each may come after the one before, and the last
 -- one is a goal, where the steps or the run end
 unfoldable pub IsTold : List Bool → Table → CodedTrain → ℕ → SweepId → List SweepId → Type 0
-IsTold values table a t w [] = IsThere values a t w.0 × (is_goal table w.0 ≡ true) × ((t ≡ a.by) ⊎ (value values (ended a (t + 1)) ≡ true))
+IsTold values table a t w [] = IsThere values a t w.0 × (is_goal table w.0 ≡ true) × ((t ≡ a.by) ⊎ (value values (run_ended a (t + 1)) ≡ true))
 IsTold values table a t w (v ∷ vs) = IsThere values a t w.0 × Contains (next_of table w.0) v × IsTold values table a (t + 1) v vs
 
 -- what the clauses of a train say as far as a chain needs it
@@ -91,14 +91,14 @@ follow_told values table a zero t w guides sum h there =
 follow_told values table a (suc more) t w guides sum h there =
     let goes = go_on_says values table a t w.0 guides.go_on h (omega arith) there in
     ⊎_elim
-    (λ over. let o : value values (ended a (t + 1)) ≡ true = over in
+    (λ over. let o : value values (run_ended a (t + 1)) ≡ true = over in
     rw o (⊎_elim
     (λ next. let (v, inside, test) = next in absurd (gone_says values a (t + 1) v.0 guides.gone (omega arith) (omega arith) (found_there values a (t + 1) v.0 test) o))
     (λ goal. (there, goal.0, inr o)) goes))
-    (λ on. let o : value values (ended a (t + 1)) ≡ false = on in
+    (λ on. let o : value values (run_ended a (t + 1)) ≡ false = on in
     rw o (⊎_elim
     (λ next. let (v, inside, test) = next in
     let first = first_passes (λ (u : SweepId). is_told values a (t + 1) u.0) (next_of table w.0) v no_item inside test in
     (there, first.0, follow_told values table a more (t + 1) (first_told values a (t + 1) (next_of table w.0)) guides (omega arith) (omega arith) (found_there values a (t + 1) (first_told values a (t + 1) (next_of table w.0)).0 first.1)))
     (λ goal. absurd (false≢true (sym o ∙ goal.1))) goes))
-    (cases_Bool (value values (ended a (t + 1))))
+    (cases_Bool (value values (run_ended a (t + 1))))

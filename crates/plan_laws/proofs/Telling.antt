@@ -11,9 +11,9 @@ use Rattle.cell_net.specs.declared.trains.StopSpec.{StopSpec}
 use Rattle.cell_net.specs.declared.trains.TrainSpec.{TrainSpec}
 use Rattle.sweep_table.specs.declared.ids.SweepId.{SweepId}
 use Rattle.sweep_table.specs.Tables.{Table, next_of, is_entry, is_goal, stands_in}
-use Rattle.clause_list.specs.Numbers.{CodedTrain, is, is_not, cone, sweep, ended, waits, beginnings}
+use Rattle.clause_list.specs.Numbers.{CodedTrain, is, is_not, cone, sweep, run_ended, waits, beginnings}
 use Rattle.clause_list.specs.RunClauses.{enter, enter_clauses, stay_ended, stay_ended_clauses, where_}
-use Rattle.clause_list.specs.StopClauses.{no_stop, stop_at, meets, last_of, stop_met, stop_met_clauses, stop_in_run, stops_in_run, stop_in_run_clauses, not_standing, stand, stands_at, stands_from, stands_while, stand_clauses, entered, entered_before, stop_after_entry_clauses}
+use Rattle.clause_list.specs.StopClauses.{no_stop, stop_at, meets, last_of_stop, stop_met, stop_met_clauses, stop_in_run, stops_in_run, stop_in_run_clauses, not_standing, stand, stands_at, stands_from, stands_while, stand_clauses, entered, entered_before, stop_after_entry_clauses}
 use Rattle.clause_list.specs.Values.{value}
 use Rattle.clause_list.proofs.ListLaws.{filter_is, filter_keeps, in_range_is}
 use Rattle.clause_list.proofs.ReadingLaws.{sat_head, sat_each, sat_range, sat_any, sat_append, sat_where, sat_not_both, sat_implies, true_value, false_value}
@@ -41,17 +41,17 @@ unfolding IsTold
 last_goal values table a t w [] told = told.1
 last_goal values table a t w (v ∷ vs) told = last_goal values table a (t + 1) v vs told.2
 
-end_told : (values : List Bool) (table : Table) (a : CodedTrain) (t : ℕ) (w : SweepId) (ws : List SweepId) → IsTold values table a t w ws → (t + length ws ≡ a.by) ⊎ (value values (ended a (t + length ws + 1)) ≡ true)
+end_told : (values : List Bool) (table : Table) (a : CodedTrain) (t : ℕ) (w : SweepId) (ws : List SweepId) → IsTold values table a t w ws → (t + length ws ≡ a.by) ⊎ (value values (run_ended a (t + length ws + 1)) ≡ true)
 unfolding IsTold
-end_told values table a t w [] told = ⊎_elim (λ e. inl (omega arith)) (λ o. inr (let same : t + 1 ≡ t + 0 + 1 = omega arith in subst (λ u. value values (ended a u) ≡ true) same o)) told.2
-end_told values table a t w (v ∷ vs) told = ⊎_elim (λ e. inl (omega arith)) (λ o. inr (let same : t + 1 + length vs + 1 ≡ t + suc (length vs) + 1 = omega arith in subst (λ u. value values (ended a u) ≡ true) same o)) (end_told values table a (t + 1) v vs told.2)
+end_told values table a t w [] told = ⊎_elim (λ e. inl (omega arith)) (λ o. inr (let same : t + 1 ≡ t + 0 + 1 = omega arith in subst (λ u. value values (run_ended a u) ≡ true) same o)) told.2
+end_told values table a t w (v ∷ vs) told = ⊎_elim (λ e. inl (omega arith)) (λ o. inr (let same : t + 1 + length vs + 1 ≡ t + suc (length vs) + 1 = omega arith in subst (λ u. value values (run_ended a u) ≡ true) same o)) (end_told values table a (t + 1) v vs told.2)
 
 follow_short : (values : List Bool) (table : Table) (a : CodedTrain) (more t : ℕ) (w : SweepId) → length (follow values table a more t w) ≤ more
 follow_short values table a zero t w = omega arith
 follow_short values table a (suc more) t w = ⊎_elim
     (λ over. rw over (omega arith))
     (λ on. rw on (let h : length (follow values table a more (t + 1) (first_told values a (t + 1) (next_of table w.0))) ≤ more = follow_short values table a more (t + 1) (first_told values a (t + 1) (next_of table w.0)) in omega arith))
-    (cases_Bool (value values (ended a (t + 1))))
+    (cases_Bool (value values (run_ended a (t + 1))))
 
 -- the first step after which the train does not wait, or the last of its window
 pub record IsFirstStep (values : List Bool) (a : CodedTrain) (from x : ℕ) : Type 0 where
@@ -92,13 +92,13 @@ enter_says values table a t all h k before =
     (sat_append values (where_ (nat_lt a.start t) (is_not (waits a (t - 1))) ++ map (λ w. is (sweep a t w)) (filter (is_entry table) (cone a t))) (where_ (nat_lt t a.latest) (is (waits a t))) clause)
 
 -- an ended run stays ended
-stays : (values : List Bool) (a : CodedTrain) (more t : ℕ) → SatisfiesAll values (stay_ended_clauses a) → a.start < t → t + more ≤ a.by → value values (ended a t) ≡ true → value values (ended a (t + more)) ≡ true
+stays : (values : List Bool) (a : CodedTrain) (more t : ℕ) → SatisfiesAll values (stay_ended_clauses a) → a.start < t → t + more ≤ a.by → value values (run_ended a t) ≡ true → value values (run_ended a (t + more)) ≡ true
 unfolding stay_ended_clauses stay_ended
-stays values a zero t all h k over = subst (λ u. value values (ended a u) ≡ true) (omega arith) over
+stays values a zero t all h k over = subst (λ u. value values (run_ended a u) ≡ true) (omega arith) over
 stays values a (suc more) t all h k over =
-    let next : value values (ended a (t + 1)) ≡ true = sat_implies values (ended a t) (ended a (t + 1)) (sat_head values (stay_ended a t) [] (sat_range values (λ u. stay_ended a u ∷ []) (a.start + 1) a.by t all (omega arith) (omega arith))) over in
+    let next : value values (run_ended a (t + 1)) ≡ true = sat_implies values (run_ended a t) (run_ended a (t + 1)) (sat_head values (stay_ended a t) [] (sat_range values (λ u. stay_ended a u ∷ []) (a.start + 1) a.by t all (omega arith) (omega arith))) over in
     let same : t + 1 + more ≡ t + suc more = omega arith in
-    subst (λ u. value values (ended a u) ≡ true) same (stays values a more (t + 1) all (omega arith) (omega arith) next)
+    subst (λ u. value values (run_ended a u) ≡ true) same (stays values a more (t + 1) all (omega arith) (omega arith) next)
 
 -- the first item is an entry that is there
 pub told_entry_is : (values : List Bool) (table : Table) (train : TrainSpec) (a : CodedTrain) → IsSatisfied values table a → IsCoded table train a → IsThere values a (told_step values a) (told_entry values table a).0 × (is_entry table (told_entry values table a).0 ≡ true)
@@ -151,10 +151,10 @@ unfolding stop_after_entry_clauses entered_before entered
 no_wait values table a i s sat inside begins holds early waiting =
     sat_not_both values (meets a i s) (waits a s) (sat_head values (entered a i s) [] (sat_each values (λ u. entered a i u ∷ []) (filter (λ u. nat_lt u a.latest) (beginnings a (stop_at a i))) s (sat_range values (entered_before a) 0 (length a.stops) i sat.stop_after_entry (omega arith) inside) (filter_keeps (λ u. nat_lt u a.latest) (beginnings a (stop_at a i)) s (lt-ltb s a.latest early) begins))) holds waiting
 
-no_end : (values : List Bool) (table : Table) (a : CodedTrain) (i s : ℕ) → IsSatisfied values table a → i < length a.stops → Contains (beginnings a (stop_at a i)) s → value values (meets a i s) ≡ true → a.start < last_of a i s → value values (ended a (last_of a i s)) ≡ true → ⊥
+no_end : (values : List Bool) (table : Table) (a : CodedTrain) (i s : ℕ) → IsSatisfied values table a → i < length a.stops → Contains (beginnings a (stop_at a i)) s → value values (meets a i s) ≡ true → a.start < last_of_stop a i s → value values (run_ended a (last_of_stop a i s)) ≡ true → ⊥
 unfolding stop_in_run_clauses stops_in_run stop_in_run
 no_end values table a i s sat inside begins holds late over =
-    sat_not_both values (meets a i s) (ended a (last_of a i s)) (sat_head values (stop_in_run a i s) [] (sat_each values (λ u. stop_in_run a i u ∷ []) (filter (λ u. nat_lt a.start (last_of a i u)) (beginnings a (stop_at a i))) s (sat_range values (stops_in_run a) 0 (length a.stops) i sat.stop_in_run (omega arith) inside) (filter_keeps (λ u. nat_lt a.start (last_of a i u)) (beginnings a (stop_at a i)) s (lt-ltb a.start (last_of a i s) late) begins))) holds over
+    sat_not_both values (meets a i s) (run_ended a (last_of_stop a i s)) (sat_head values (stop_in_run a i s) [] (sat_each values (λ u. stop_in_run a i u ∷ []) (filter (λ u. nat_lt a.start (last_of_stop a i u)) (beginnings a (stop_at a i))) s (sat_range values (stops_in_run a) 0 (length a.stops) i sat.stop_in_run (omega arith) inside) (filter_keeps (λ u. nat_lt a.start (last_of_stop a i u)) (beginnings a (stop_at a i)) s (lt-ltb a.start (last_of_stop a i s) late) begins))) holds over
 
 le_or_lt : (m n : ℕ) → (m ≤ n) ⊎ (n < m)
 le_or_lt m n = ⊎_elim (λ h. inr h) (λ h. inl h) (cases_lt n m)
@@ -177,7 +177,7 @@ stop_is_met values table train a i sat coded stands inside =
     let long : s + stop.dwell ≤ x + length ws + 1 = ⊎_elim (λ enough. enough) (λ short. ⊎_elim
     (λ end. omega arith)
     (λ over. let more : x + length ws + 1 + (s + stop.dwell - 1 - (x + length ws + 1)) ≡ s + stop.dwell - 1 = omega arith in
-    absurd (no_end values table a i s sat inside begins holds (omega arith) (subst (λ u. value values (ended a u) ≡ true) more (stays values a (s + stop.dwell - 1 - (x + length ws + 1)) (x + length ws + 1) sat.stay_ended (omega arith) (omega arith) over))))
+    absurd (no_end values table a i s sat inside begins holds (omega arith) (subst (λ u. value values (run_ended a u) ≡ true) more (stays values a (s + stop.dwell - 1 - (x + length ws + 1)) (x + length ws + 1) sat.stay_ended (omega arith) (omega arith) over))))
     (end_told values table a x w ws told)) (le_or_lt (s + stop.dwell) (x + length ws + 1)) in (
       s,
       omega arith,

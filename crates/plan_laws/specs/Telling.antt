@@ -7,7 +7,7 @@ use Rattle.cell_net.specs.declared.plans.Plan.{Plan}
 use Rattle.sweep_table.specs.declared.ids.SweepId.{SweepId}
 use Rattle.sweep_table.specs.Tables.{Table, next_of, is_entry}
 use Rattle.clause_list.specs.Ranges.{below}
-use Rattle.clause_list.specs.Numbers.{CodedTrain, cone, sweep, ended, waits, border}
+use Rattle.clause_list.specs.Numbers.{CodedTrain, cone, sweep, run_ended, waits, border}
 use Rattle.clause_list.specs.Values.{value}
 use Rattle.clause_list.specs.WholeList.{table_at, train_at}
 use Rattle.plan_laws.specs.Chains.{sweep_of}
@@ -28,7 +28,7 @@ first_told values a t items = slice_index_or (filter (λ v. is_told values a t v
 -- the next ones that is told, and what comes after that
 abbrev pub follow : List Bool → Table → CodedTrain → ℕ → ℕ → SweepId → List SweepId
 follow values table a zero t v = []
-follow values table a (suc more) t v = cond (value values (ended a (t + 1))) []
+follow values table a (suc more) t v = cond (value values (run_ended a (t + 1))) []
     (first_told values a (t + 1) (next_of table v.0) ∷ follow values table a more (t + 1) (first_told values a (t + 1) (next_of table v.0)))
 
 -- the first step, from a step on for so many steps at most, after which the train does not wait

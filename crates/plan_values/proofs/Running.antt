@@ -10,7 +10,7 @@ use Rattle.cell_net.specs.declared.cells.DirCell.{DirCell}
 use Rattle.sweep_table.specs.declared.ids.SweepId.{SweepId}
 use Rattle.sweep_table.specs.Tables.{Table, cells_of, next_of, is_entry, is_goal}
 use Rattle.clause_list.specs.Ranges.{from_below, from_to}
-use Rattle.clause_list.specs.Numbers.{CodedTrain, is, is_not, cone, sweep, ended, waits, touch, steps}
+use Rattle.clause_list.specs.Numbers.{CodedTrain, is, is_not, cone, sweep, run_ended, waits, touch, steps}
 use Rattle.clause_list.specs.RunClauses.{where_, enter, enter_clauses, followers, go_on, goes_on_at, go_on_clauses, stay_ended, stay_ended_clauses, gone, gone_at, gone_clauses, touching, touches_of, touches_at, touch_clauses}
 use Rattle.clause_list.specs.Orders.{FitsTable}
 use Rattle.clause_list.proofs.ListLaws.{in_range_is, is_in, filter_keeps, both_true, same_number}
@@ -67,7 +67,7 @@ enter_holds values table a x items means chain order =
     make_one values (enter table a t) (enter_one values table a x items t means chain h (omega arith) order))
 
 -- after an item comes the next one of the chain, or it is the last, which is a goal
-goes_on_here : (values : List Bool) (table : Table) (a : CodedTrain) (x : ℕ) (items : List ℕ) (t w : ℕ) → Means values table a x items → IsChainOf table a x items → a.start ≤ t → t < a.by → x ≤ t → t - x < length items → get_or items (t - x) 0 ≡ w → Satisfies values (followers a (t + 1) (next_of table w) ++ where_ (is_goal table w) (is (ended a (t + 1))))
+goes_on_here : (values : List Bool) (table : Table) (a : CodedTrain) (x : ℕ) (items : List ℕ) (t w : ℕ) → Means values table a x items → IsChainOf table a x items → a.start ≤ t → t < a.by → x ≤ t → t - x < length items → get_or items (t - x) 0 ≡ w → Satisfies values (followers a (t + 1) (next_of table w) ++ where_ (is_goal table w) (is (run_ended a (t + 1))))
 goes_on_here values table a x items t w means chain h k begun there is_w = ⊎_elim
     (λ more.
     let v : ℕ = get_or items (t - x + 1) 0 in
@@ -77,11 +77,11 @@ goes_on_here values table a x items t w means chain h k begun there is_w = ⊎_e
     let inside : Contains (cone a (t + 1)) v = subst (λ u. Contains (cone a u) v) now (chain.in_cones (t - x + 1) more) in
     let holds : has x items (t + 1) v ≡ true = subst (λ i. has x items (t + 1) (get_or items i 0) ≡ true) (sym place) (has_holds x items (t + 1) (omega arith) (omega arith)) in
     let id : SweepId = record { 0 = v } in
-    in_front values (followers a (t + 1) (next_of table w)) (where_ (is_goal table w) (is (ended a (t + 1)))) (make_any values (λ (u : SweepId). sweep a (t + 1) u.0) (filter (λ u. list_any (nat_eq u.0) (cone a (t + 1))) (next_of table w)) id (filter_keeps (λ (u : SweepId). list_any (nat_eq u.0) (cone a (t + 1))) (next_of table w) id (is_in (cone a (t + 1)) v inside) next) (make_true values (sweep a (t + 1) v) (has x items (t + 1) v) (means.sweep (t + 1) v (omega arith) (omega arith) inside) holds)))
+    in_front values (followers a (t + 1) (next_of table w)) (where_ (is_goal table w) (is (run_ended a (t + 1)))) (make_any values (λ (u : SweepId). sweep a (t + 1) u.0) (filter (λ u. list_any (nat_eq u.0) (cone a (t + 1))) (next_of table w)) id (filter_keeps (λ (u : SweepId). list_any (nat_eq u.0) (cone a (t + 1))) (next_of table w) id (is_in (cone a (t + 1)) v inside) next) (make_true values (sweep a (t + 1) v) (has x items (t + 1) v) (means.sweep (t + 1) v (omega arith) (omega arith) inside) holds)))
     (λ last.
     let end : length items - 1 ≡ t - x = omega arith in
     let goal : is_goal table w ≡ true = subst (λ u. is_goal table u ≡ true) is_w (subst (λ i. is_goal table (get_or items i 0) ≡ true) end chain.arrives) in
-    behind values (followers a (t + 1) (next_of table w)) (where_ (is_goal table w) (is (ended a (t + 1)))) (make_where values (is_goal table w) (is (ended a (t + 1))) goal (make_true values (ended a (t + 1)) (is_over x items (t + 1)) (means.ended (t + 1) (omega arith) (omega arith)) (le-leb (x + length items) (t + 1) (omega arith)))))
+    behind values (followers a (t + 1) (next_of table w)) (where_ (is_goal table w) (is (run_ended a (t + 1)))) (make_where values (is_goal table w) (is (run_ended a (t + 1))) goal (make_true values (run_ended a (t + 1)) (is_over x items (t + 1)) (means.ended (t + 1) (omega arith) (omega arith)) (le-leb (x + length items) (t + 1) (omega arith)))))
     (cases_lt (t - x + 1) (length items))
 
 pub go_on_holds : (values : List Bool) (table : Table) (a : CodedTrain) (x : ℕ) (items : List ℕ) → Means values table a x items → IsChainOf table a x items → SatisfiesAll values (go_on_clauses table a)
@@ -89,7 +89,7 @@ unfolding go_on_clauses goes_on_at go_on
 go_on_holds values table a x items means chain =
     make_each values (goes_on_at table a) (from_below a.start a.by) (λ t step. let (h, k) = in_range_is a.start a.by t step in
     make_each values (λ w. go_on table a t w ∷ []) (cone a t) (λ w inside. make_one values (go_on table a t w) (
-    let rest : List Lit = followers a (t + 1) (next_of table w) ++ where_ (is_goal table w) (is (ended a (t + 1))) in
+    let rest : List Lit = followers a (t + 1) (next_of table w) ++ where_ (is_goal table w) (is (run_ended a (t + 1))) in
     ⊎_elim
     (λ holds. let (begun, there, is_w) = has_says x items t w holds in later values (is_not (sweep a t w)) rest (goes_on_here values table a x items t w means chain h k begun there is_w))
     (λ fails. here values (is_not (sweep a t w)) rest (make_false values (sweep a t w) (has x items t w) (means.sweep t w h (omega arith) inside) fails))
@@ -99,7 +99,7 @@ pub stay_ended_holds : (values : List Bool) (table : Table) (a : CodedTrain) (x 
 unfolding stay_ended_clauses stay_ended
 stay_ended_holds values table a x items means =
     make_each values (λ t. stay_ended a t ∷ []) (from_below (a.start + 1) a.by) (λ t step. let (h, k) = in_range_is (a.start + 1) a.by t step in
-    make_one values (stay_ended a t) (one_makes values (ended a t) (ended a (t + 1)) (is_over x items t) (is_over x items (t + 1)) (means.ended t (omega arith) (omega arith)) (means.ended (t + 1) (omega arith) (omega arith))
+    make_one values (stay_ended a t) (one_makes values (run_ended a t) (run_ended a (t + 1)) (is_over x items t) (is_over x items (t + 1)) (means.ended t (omega arith) (omega arith)) (means.ended (t + 1) (omega arith) (omega arith))
     (λ over. let end : x + length items ≤ t = leb-true (x + length items) t over in le-leb (x + length items) (t + 1) (omega arith))))
 
 pub gone_holds : (values : List Bool) (table : Table) (a : CodedTrain) (x : ℕ) (items : List ℕ) → Means values table a x items → SatisfiesAll values (gone_clauses a)
@@ -107,7 +107,7 @@ unfolding gone_clauses gone_at gone
 gone_holds values table a x items means =
     make_each values (gone_at a) (from_to (a.start + 1) a.by) (λ t step. let (h, k) = in_range_is (a.start + 1) (a.by + 1) t step in
     make_each values (λ w. gone a t w ∷ []) (cone a t) (λ w inside. make_one values (gone a t w) (
-    not_both values (ended a t) (sweep a t w) (is_over x items t) (has x items t w) (means.ended t (omega arith) (omega arith)) (means.sweep t w (omega arith) (omega arith) inside)
+    not_both values (run_ended a t) (sweep a t w) (is_over x items t) (has x items t w) (means.ended t (omega arith) (omega arith)) (means.sweep t w (omega arith) (omega arith) inside)
     (λ over. false_from_ne_true (has x items t w) (λ holds.
     let end : x + length items ≤ t = leb-true (x + length items) t over in
     let (begun, there, is_w) = has_says x items t w holds in

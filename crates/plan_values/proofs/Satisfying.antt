@@ -26,7 +26,7 @@ use Rattle.clause_list.specs.StopClauses.{stop_at, no_stop, stop_met_clauses, st
 use Rattle.clause_list.specs.BorderClauses.{kept_clauses, given_clauses, gap_clauses}
 use Rattle.clause_list.specs.PairClauses.{apart_clauses}
 use Rattle.clause_list.specs.WholeList.{no_table, table_at, train_at, of_train, of_each_train, by_train, by_each_train, apart_of_two, apart_of, apart_of_all, plan_families, base_families, given_families, whole}
-use Rattle.clause_list.specs.Orders.{IsNumbered, FitsTable, AreNumbered, AreWalksOver}
+use Rattle.clause_list.specs.Orders.{IsNumbered, FitsTable, AreAllNumbered, AreWalksOver}
 use Rattle.clause_list.proofs.ListLaws.{in_range_is}
 use Rattle.clause_list.proofs.CodedLaws.{coded_at, coded_are_numbered, length-coded_from}
 use Rattle.clause_list.proofs.WalkLaws.{walks_are_over}
@@ -126,7 +126,7 @@ plan_holds values vars walks net tables trains borders chains mean over ready ap
     (All-nil (Satisfies values))))))))))))
 
 -- a train with its chain is ready, where its values stand in the valuation
-ready_of : (p : InstanceParts) (values : List Bool) (vars : ℕ) (tables : List Table) (chains : List ChainItems) (runs : List TrainRun) (i : ℕ) → IsInstance p → AreTables p tables → AreNumbered vars (network_of p) tables (trains_of p tables) → length chains ≡ length p.trains → IsPart values (first_of_trains (network_of p)) (values_of_trains tables (trains_of p tables) chains) → i < length p.trains → IsChosen (table_at tables i) (get_or p.trains i some_train) runs i (items_at chains i) → IsReady values vars (table_at tables i) (train_at (trains_of p tables) i) (items_at chains i)
+ready_of : (p : InstanceParts) (values : List Bool) (vars : ℕ) (tables : List Table) (chains : List ChainItems) (runs : List TrainRun) (i : ℕ) → IsInstance p → AreTables p tables → AreAllNumbered vars (network_of p) tables (trains_of p tables) → length chains ≡ length p.trains → IsPart values (first_of_trains (network_of p)) (values_of_trains tables (trains_of p tables) chains) → i < length p.trains → IsChosen (table_at tables i) (get_or p.trains i some_train) runs i (items_at chains i) → IsReady values vars (table_at tables i) (train_at (trains_of p tables) i) (items_at chains i)
 ready_of p values vars tables chains runs i rules are numbered count part within chosen =
     let trains : List CodedTrain = trains_of p tables in
     let size : length trains ≡ length p.trains = length-coded_from p (first_of_trains (network_of p)) tables p.trains are.for_each in
@@ -165,7 +165,7 @@ task_parts values p gaps tables borders chains part =
     }
 
 -- how many values there are
-pub length-base_values : (p : InstanceParts) (gaps : List (List (List (List CandidateId)))) (tables : List Table) (borders : List CandidateId) (chains : List ChainItems) (vars : ℕ) → AreTables p tables → AreNumbered vars (network_of p) tables (trains_of p tables) → length chains ≡ length p.trains → length (base_values (walks_in gaps) (network_of p) tables (trains_of p tables) borders chains) ≡ first_of_count p tables - 1
+pub length-base_values : (p : InstanceParts) (gaps : List (List (List (List CandidateId)))) (tables : List Table) (borders : List CandidateId) (chains : List ChainItems) (vars : ℕ) → AreTables p tables → AreAllNumbered vars (network_of p) tables (trains_of p tables) → length chains ≡ length p.trains → length (base_values (walks_in gaps) (network_of p) tables (trains_of p tables) borders chains) ≡ first_of_count p tables - 1
 length-base_values p gaps tables borders chains vars are numbered count =
     let net : Network = network_of p in
     let first : ℕ = first_of_trains net in
@@ -186,7 +186,7 @@ chosen_of p borders tables plan chains = choose (length p.trains) (λ i c. IsCho
     (record { from = run.start; items = numbers_of of.items }, record { run = run; is = there; ids = of.items; chain = of.chain; sweeps = of.touches; same = refl }))
 
 -- two trains' clauses hold, where their runs are apart
-pair_holds : (p : InstanceParts) (values : List Bool) (vars : ℕ) (gaps : List (List (List (List CandidateId)))) (tables : List Table) (borders : List CandidateId) (chains : List ChainItems) (runs : List TrainRun) (i j : ℕ) → BordersMean values (walks_in gaps) (network_of p) borders → CandidatesSeparate p borders gaps → AllPairs (AreApart p borders) runs → AreNumbered vars (network_of p) tables (trains_of p tables) → i < j → j < length (trains_of p tables) → j < length runs → IsReady values vars (table_at tables i) (train_at (trains_of p tables) i) (items_at chains i) → IsReady values vars (table_at tables j) (train_at (trains_of p tables) j) (items_at chains j) → IsChosen (table_at tables i) (get_or p.trains i some_train) runs i (items_at chains i) → IsChosen (table_at tables j) (get_or p.trains j some_train) runs j (items_at chains j) → SatisfiesAll values (apart_clauses (network_of p) (train_at (trains_of p tables) i) (train_at (trains_of p tables) j))
+pair_holds : (p : InstanceParts) (values : List Bool) (vars : ℕ) (gaps : List (List (List (List CandidateId)))) (tables : List Table) (borders : List CandidateId) (chains : List ChainItems) (runs : List TrainRun) (i j : ℕ) → BordersMean values (walks_in gaps) (network_of p) borders → CandidatesSeparate p borders gaps → AllPairs (AreApart p borders) runs → AreAllNumbered vars (network_of p) tables (trains_of p tables) → i < j → j < length (trains_of p tables) → j < length runs → IsReady values vars (table_at tables i) (train_at (trains_of p tables) i) (items_at chains i) → IsReady values vars (table_at tables j) (train_at (trains_of p tables) j) (items_at chains j) → IsChosen (table_at tables i) (get_or p.trains i some_train) runs i (items_at chains i) → IsChosen (table_at tables j) (get_or p.trains j some_train) runs j (items_at chains j) → SatisfiesAll values (apart_clauses (network_of p) (train_at (trains_of p tables) i) (train_at (trains_of p tables) j))
 pair_holds p values vars gaps tables borders chains runs i j mean law pairs numbered less within in_runs one other chosen chosen_too =
     let a : CodedTrain = train_at (trains_of p tables) i in
     let b : CodedTrain = train_at (trains_of p tables) j in
@@ -213,7 +213,7 @@ satisfied p gaps tables borders plan rules gap_rules are chains law =
     let walks : ℕ → ℕ → List (List CandidateId) = walks_in gaps in
     let trains : List CodedTrain = trains_of p tables in
     let vars : ℕ = first_of_count p tables in
-    let numbered : AreNumbered vars net tables trains = coded_are_numbered p tables vars rules are.for_each are.each (omega arith) in
+    let numbered : AreAllNumbered vars net tables trains = coded_are_numbered p tables vars rules are.for_each are.each (omega arith) in
     let over : AreWalksOver net walks = walks_are_over p gaps gap_rules in
     let count : length trains ≡ length p.trains = length-coded_from p (first_of_trains net) tables p.trains are.for_each in
     let chosen = chosen_of p borders tables plan chains in

@@ -7,8 +7,8 @@ use Rattle.sat_core.specs.Clauses.{SatisfiesAll}
 use Rattle.cell_net.specs.declared.trains.StopSpec.{StopSpec}
 use Rattle.sweep_table.specs.Tables.{Table, stands_in}
 use Rattle.clause_list.specs.Ranges.{from_below}
-use Rattle.clause_list.specs.Numbers.{CodedTrain, cone, sweep, ended, waits, beginnings}
-use Rattle.clause_list.specs.StopClauses.{stop_at, stop_places, meets, last_of, stop_met, stop_met_clauses, stop_in_run, stops_in_run, stop_in_run_clauses, not_standing, stand, stands_at as stand_at_clauses, stands_from, stands_while, stand_clauses, entered, entered_before, stop_after_entry_clauses}
+use Rattle.clause_list.specs.Numbers.{CodedTrain, cone, sweep, run_ended, waits, beginnings}
+use Rattle.clause_list.specs.StopClauses.{stop_at, stop_places, meets, last_of_stop, stop_met, stop_met_clauses, stop_in_run, stops_in_run, stop_in_run_clauses, not_standing, stand, stands_at as stand_at_clauses, stands_from, stands_while, stand_clauses, entered, entered_before, stop_after_entry_clauses}
 use Rattle.clause_list.proofs.ListLaws.{in_range_is, in_range, filter_is, both_true}
 use Rattle.clause_list.proofs.NumberLaws.{beginning_is}
 use Rattle.plan_values.specs.Values.{has_step, has, stands_at, is_met, is_over, is_waiting}
@@ -58,14 +58,14 @@ pub stop_in_run_holds : (values : List Bool) (table : Table) (a : CodedTrain) (x
 unfolding stop_in_run_clauses stops_in_run stop_in_run
 stop_in_run_holds values table a x items means dwells =
     make_each values (stops_in_run a) (stop_places a) (λ i stop.
-    make_each values (λ s. stop_in_run a i s ∷ []) (filter (λ s. nat_lt a.start (last_of a i s)) (beginnings a (stop_at a i))) (λ s kept. make_one values (stop_in_run a i s) (
+    make_each values (λ s. stop_in_run a i s ∷ []) (filter (λ s. nat_lt a.start (last_of_stop a i s)) (beginnings a (stop_at a i))) (λ s kept. make_one values (stop_in_run a i s) (
     let within : i < length a.stops = place_within a i stop in
-    let (test, inside) = filter_is (λ s. nat_lt a.start (last_of a i s)) (beginnings a (stop_at a i)) s kept in
-    let after : a.start < last_of a i s = ltb-true a.start (last_of a i s) test in
+    let (test, inside) = filter_is (λ s. nat_lt a.start (last_of_stop a i s)) (beginnings a (stop_at a i)) s kept in
+    let after : a.start < last_of_stop a i s = ltb-true a.start (last_of_stop a i s) test in
     let (first, start, from, by, until, place) = beginning_is a (stop_at a i) s inside in
     let some : 0 < (stop_at a i).dwell = dwells i within in
-    not_both values (meets a i s) (ended a (last_of a i s)) (is_met table x items (stop_at a i) s) (is_over x items (last_of a i s)) (means.met i s within inside) (means.ended (last_of a i s) after (omega arith))
-    (λ met. let (begun, there, stands) = met_says table x items (stop_at a i) s (last_of a i s) met (omega arith) (omega arith) in not_over x items (last_of a i s) (omega arith)))))
+    not_both values (meets a i s) (run_ended a (last_of_stop a i s)) (is_met table x items (stop_at a i) s) (is_over x items (last_of_stop a i s)) (means.met i s within inside) (means.ended (last_of_stop a i s) after (omega arith))
+    (λ met. let (begun, there, stands) = met_says table x items (stop_at a i) s (last_of_stop a i s) met (omega arith) (omega arith) in not_over x items (last_of_stop a i s) (omega arith)))))
 
 pub stand_holds : (values : List Bool) (table : Table) (a : CodedTrain) (x : ℕ) (items : List ℕ) → Means values table a x items → SatisfiesAll values (stand_clauses table a)
 unfolding stand_clauses stands_while stands_from stand_at_clauses stand

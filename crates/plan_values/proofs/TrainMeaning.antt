@@ -9,7 +9,7 @@ use Rattle.cell_net.specs.declared.trains.StopSpec.{StopSpec}
 use Rattle.sweep_table.specs.Tables.{Table}
 use Rattle.clause_list.specs.Ranges.{below, from_below, from_to}
 use Rattle.clause_list.specs.Rows.{rows}
-use Rattle.clause_list.specs.Numbers.{CodedTrain, cone, steps, sweep, touch, ended, waits, beginnings, first_touch, first_ended, first_met, first_waits, behind_train}
+use Rattle.clause_list.specs.Numbers.{CodedTrain, cone, steps, sweep, touch, run_ended, waits, beginnings, first_touch, first_ended, first_met, first_waits, behind_train}
 use Rattle.clause_list.specs.StopClauses.{stop_at, meets, no_stop}
 use Rattle.clause_list.specs.Orders.{IsNumbered}
 use Rattle.clause_list.proofs.ListLaws.{first_place, length-from_below, length-below, at_below, in_range_is}
@@ -129,11 +129,11 @@ touch_is values table a x items t e part h k few =
     (ap (λ u. touches table x items u (get_or (get_or lists row []) e 0)) now ∙ ap (touches table x items t) (ap (λ c. get_or c e 0) this ∙ at_below a.cells e 0 few))
     (row_part values (first_touch a) (touches table x items) a.start lists row e 0 part (omega arith) (omega arith))
 
-ended_is : (values : List Bool) (a : CodedTrain) (x : ℕ) (items : List ℕ) (t : ℕ) → IsPart values (first_ended a) (map (is_over x items) (from_to (a.start + 1) a.by)) → a.start < t → t ≤ a.by → Is values (ended a t) (is_over x items t)
+ended_is : (values : List Bool) (a : CodedTrain) (x : ℕ) (items : List ℕ) (t : ℕ) → IsPart values (first_ended a) (map (is_over x items) (from_to (a.start + 1) a.by)) → a.start < t → t ≤ a.by → Is values (run_ended a t) (is_over x items t)
 ended_is values a x items t part h k =
     let place : ℕ = t - (a.start + 1) in
     let at : get_or (from_to (a.start + 1) a.by) place 0 ≡ t = at_from (a.start + 1) (a.by + 1) place 0 (omega arith) ∙ omega arith in
-    is_as values (ended a t) (ended a t) (is_over x items (get_or (from_to (a.start + 1) a.by) place 0)) (is_over x items t) refl (ap (is_over x items) at)
+    is_as values (run_ended a t) (run_ended a t) (is_over x items (get_or (from_to (a.start + 1) a.by) place 0)) (is_over x items t) refl (ap (is_over x items) at)
     (map_part values (first_ended a) (is_over x items) (from_to (a.start + 1) a.by) place 0 part (omega (arith, length-from_below (a.start + 1) (a.by + 1))))
 
 met_is : (values : List Bool) (table : Table) (a : CodedTrain) (x : ℕ) (items : List ℕ) (i s : ℕ) → IsPart values (first_met a) (rows (is_met_at table x items) 0 (map (with_beginnings a) a.stops)) → i < length a.stops → Contains (beginnings a (stop_at a i)) s → Is values (meets a i s) (is_met table x items (stop_at a i) s)

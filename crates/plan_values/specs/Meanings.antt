@@ -1,7 +1,7 @@
 -- What the laws take: chains by the numbers of their items, and that variables have the values of their meanings.
 use Rattle.std.specs.Prelude.{◌≡◌, ◌<◌, ◌≤◌, ◌+◌, ◌-◌, ℕ, Bool, true, List, length, slice_index, Contains}
 use Rattle.sweep_table.specs.Tables.{Table, next_of, is_entry, is_goal}
-use Rattle.clause_list.specs.Numbers.{CodedTrain, cone, sweep, touch, ended, waits, beginnings}
+use Rattle.clause_list.specs.Numbers.{CodedTrain, cone, sweep, touch, run_ended, waits, beginnings}
 use Rattle.clause_list.specs.StopClauses.{stop_at, meets}
 use Rattle.clause_list.specs.Values.{value}
 use Rattle.plan_values.specs.Values.{has, touches, is_over, is_met, is_waiting}
@@ -15,7 +15,7 @@ pub record Is (values : List Bool) (v : ℕ) (truth : Bool) : Type 0 where
 pub record Means (values : List Bool) (table : Table) (a : CodedTrain) (x : ℕ) (items : List ℕ) : Type 0 where
   pub sweep : (t w : ℕ) → a.start ≤ t → t ≤ a.by → Contains (cone a t) w → Is values (sweep a t w) (has x items t w)
   pub touch : (t e : ℕ) → a.start ≤ t → t ≤ a.by → e < a.cells → Is values (touch a t e) (touches table x items t e)
-  pub ended : (t : ℕ) → a.start < t → t ≤ a.by → Is values (ended a t) (is_over x items t)
+  pub ended : (t : ℕ) → a.start < t → t ≤ a.by → Is values (run_ended a t) (is_over x items t)
   pub met : (i s : ℕ) → i < length a.stops → Contains (beginnings a (stop_at a i)) s → Is values (meets a i s) (is_met table x items (stop_at a i) s)
   pub waits : (t : ℕ) → a.start ≤ t → t < a.latest → Is values (waits a t) (is_waiting x t)
 

@@ -1,5 +1,4 @@
 -- Why `write_apart` does what its contract says.
-use Rattle.std.proofs.Common.{refl}
 use Rattle.clause_list.specs.PairClauses.{apart_clauses}
 use Rattle.clause_encoder.proofs.apart.write_apart.Goals as goal
 

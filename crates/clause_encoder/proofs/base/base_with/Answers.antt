@@ -1,5 +1,5 @@
 -- Why `base_with` does what its contract says.
-use Rattle.std.proofs.Common.{◌≡◌, ◌<◌, refl, arith}
+use Rattle.std.proofs.Common.{◌≡◌, refl, arith}
 use Rattle.clause_list.specs.Coding.{first_of_count}
 use Rattle.clause_encoder.specs.TableLists.{tables_of}
 use Rattle.clause_encoder.specs.Encoding.{base_sized}

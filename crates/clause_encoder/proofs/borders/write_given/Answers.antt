@@ -1,5 +1,4 @@
 -- Why `write_given` does what its contract says.
-use Rattle.std.proofs.Common.{refl}
 use Rattle.clause_list.specs.BorderClauses.{given_clauses}
 use Rattle.clause_encoder.proofs.borders.write_given.Goals as goal
 

@@ -1,10 +1,10 @@
 -- Why `write_kept` does what its contract says.
-use Rattle.std.proofs.Common.{◌≡◌, ◌<◌, ◌≤◌, ◌+◌, List, ◌∷◌, [], length, get_or, ap, subst, arith, refl, ◌∙◌}
+use Rattle.std.proofs.Common.{◌<◌, ◌+◌, List, ◌∷◌, [], length, get_or, ap, subst, ◌∙◌}
 use Rattle.sat_core.specs.declared.literal.Lit.{Lit}
 use Rattle.cell_net.specs.declared.ids.CandidateId.{CandidateId}
 use Rattle.clause_list.specs.Numbers.{is}
 use Rattle.clause_list.specs.BorderClauses.{kept, kept_alone, kept_clauses}
-use Rattle.clause_encoder.proofs.WritingLemmas.{each_more, each_done, each_full, each_fits}
+use Rattle.clause_encoder.proofs.WritingLemmas.{each_more, each_full, each_fits}
 use Rattle.clause_encoder.proofs.borders.write_kept.Goals as goal
 
 pub take-requires : goal.take-requires

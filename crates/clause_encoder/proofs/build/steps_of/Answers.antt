@@ -1,5 +1,5 @@
 -- Why `steps_of` does what its contract says.
-use Rattle.std.proofs.Common.{◌∙◌, sym, refl, arith}
+use Rattle.std.proofs.Common.{◌∙◌, sym, arith}
 use Rattle.clause_encoder.proofs.MarkLemmas.{rows_none, pushed_more}
 use Rattle.clause_encoder.proofs.build.steps_of.Goals as goal
 

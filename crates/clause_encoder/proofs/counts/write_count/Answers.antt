@@ -1,5 +1,5 @@
 -- Why `write_count` does what its contract says.
-use Rattle.std.proofs.Common.{◌≡◌, ◌≤◌, ◌+◌, ◌-◌, ℕ, List, length, ap, subst, sym, arith, ◌∙◌}
+use Rattle.std.proofs.Common.{◌≤◌, ◌+◌, ◌-◌, ℕ, List, length, ap, subst, sym, arith, ◌∙◌}
 use Rattle.std.specs.Prelude.{All, OnOk, IfErr}
 use Rattle.sat_core.specs.declared.literal.Lit.{Lit}
 use Rattle.sat_core.specs.Clauses.{IsOver}

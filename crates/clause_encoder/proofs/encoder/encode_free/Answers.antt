@@ -1,5 +1,5 @@
 -- Why `encode_free` does what its contract says.
-use Rattle.std.proofs.Common.{◌≡◌, ◌∙◌, ◌+◌, ◌-◌, ◌≤◌, ◌<◌, length, ap, subst, sym, refl, arith}
+use Rattle.std.proofs.Common.{◌≡◌, ◌∙◌, ◌+◌, ◌-◌, length, ap, sym, refl, arith}
 use Rattle.border_counter.specs.Counter.{sum_to}
 use Rattle.clause_list.specs.BorderClauses.{most_clauses}
 use Rattle.clause_list.specs.Coding.{first_of_count}

@@ -3,4 +3,4 @@ use Rattle.clause_encoder.proofs.EncodeLemmas.{given_fit}
 use Rattle.clause_encoder.proofs.encoder.given_fits.Goals as goal
 
 pub returns : goal.returns
-returns g c = given_fit g.M.Moves.items g.M.Moves.table c.args.inst.now c.args.tables.now _ _ _ _ _ c.parts-parts.ensures.rules c.requires.for_each c.know_tables.ensures c.requires.numbers
+returns g c = given_fit g.M.Moves.items g.M.Moves.table c.args.inst.now c.args.tables.now _ _ _ _ _ c.parts-parts.ensures.rules c.requires.for_each c.know_tables.ensures.known c.requires.numbers

@@ -1,5 +1,4 @@
 -- Why `write_gone` does what its contract says.
-use Rattle.std.proofs.Common.{refl}
 use Rattle.clause_list.specs.RunClauses.{gone_clauses}
 use Rattle.clause_encoder.proofs.ended.write_gone.Goals as goal
 

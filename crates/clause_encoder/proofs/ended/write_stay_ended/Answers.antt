@@ -1,5 +1,4 @@
 -- Why `write_stay_ended` does what its contract says.
-use Rattle.std.proofs.Common.{refl}
 use Rattle.clause_list.specs.RunClauses.{stay_ended_clauses}
 use Rattle.clause_encoder.proofs.ended.write_stay_ended.Goals as goal
 

@@ -1,5 +1,4 @@
 -- Why `write_enter` does what its contract says.
-use Rattle.std.proofs.Common.{refl}
 use Rattle.clause_list.specs.RunClauses.{enter_clauses}
 use Rattle.clause_encoder.proofs.enter.write_enter.Goals as goal
 

@@ -1,5 +1,4 @@
 -- Why `write_of_each_train` does what its contract says.
-use Rattle.std.proofs.Common.{refl}
 use Rattle.clause_list.specs.WholeList.{of_each_train}
 use Rattle.clause_encoder.proofs.family.write_of_each_train.Goals as goal
 

@@ -1,5 +1,4 @@
 -- Why `add_borders` does what its contract says.
-use Rattle.std.proofs.Common.{◌∙◌, ap, ◌++◌, ◌∷◌, []}
 use Rattle.clause_encoder.specs.WalkFitting.{border_lit}
 use Rattle.clause_encoder.proofs.WalkLemmas.{item_none, item_more, item_done}
 use Rattle.clause_encoder.proofs.gaps.add_borders.Goals as goal

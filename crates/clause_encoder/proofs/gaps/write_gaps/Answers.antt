@@ -1,5 +1,4 @@
 -- Why `write_gaps` does what its contract says.
-use Rattle.std.proofs.Common.{refl}
 use Rattle.clause_list.specs.BorderClauses.{gap_clauses}
 use Rattle.clause_encoder.proofs.gaps.write_gaps.Goals as goal
 

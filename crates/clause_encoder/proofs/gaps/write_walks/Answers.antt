@@ -1,5 +1,5 @@
 -- Why `write_walks` does what its contract says.
-use Rattle.std.proofs.Common.{refl, length, [], ◌<◌, arith}
+use Rattle.std.proofs.Common.{refl, [], arith}
 use Rattle.clause_list.specs.Coding.{walks_in}
 use Rattle.clause_encoder.specs.WalkFitting.{on_walk_alone}
 use Rattle.clause_encoder.proofs.WritingLemmas.{each_more, each_done, each_full, each_fits}

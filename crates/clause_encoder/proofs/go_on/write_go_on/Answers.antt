@@ -1,5 +1,4 @@
 -- Why `write_go_on` does what its contract says.
-use Rattle.std.proofs.Common.{refl}
 use Rattle.clause_list.specs.RunClauses.{go_on_clauses}
 use Rattle.clause_encoder.proofs.go_on.write_go_on.Goals as goal
 

@@ -5,4 +5,4 @@ use Rattle.clause_list.specs.Cones.{is_ahead_by}
 use Rattle.clause_encoder.proofs.marks.ahead_marks.Given as goal
 
 abbrev pub invariant-loop-item : goal.invariant-loop-item
-invariant-loop-item g l = l.new.items ≡ map (is_ahead_by (g.M.Moves.table l.table l.inst) l.may_enter l.marks) (from_below 0 l.item)
+invariant-loop-item g l = l.new ≡ map (is_ahead_by (g.M.Moves.table l.table l.inst) l.may_enter l.marks) (from_below 0 l.item)

@@ -1,10 +1,13 @@
 -- Why `home_marks` does what its contract says.
-use Rattle.std.proofs.Common.{◌∙◌, sym}
-use Rattle.clause_encoder.proofs.MarkLemmas.{pushed_more, map_below_none}
+use Rattle.std.proofs.Common.{◌∙◌, sym, arith}
+use Rattle.clause_encoder.proofs.MarkLemmas.{pushed_more, map_below_none, marks_few}
 use Rattle.clause_encoder.proofs.marks.home_marks.Goals as goal
 
 pub loop-item-preserved : goal.loop-item-preserved
-loop-item-preserved g c = pushed_more _ _ _ _ _ c.loop-item.invariant c.in_ok-push.ensures.items c.is_home.ensures
+loop-item-preserved g c = pushed_more _ _ _ _ _ c.loop-item.invariant c.in_ok-push.ensures.ok c.is_home.ensures
 
 pub loop-item-init : goal.loop-item-init
-loop-item-init g c = c.in_ok-reserve.ensures.items ∙ c.new-new.ensures.items ∙ sym (map_below_none _)
+loop-item-init g c = c.in_ok-new.ensures ∙ sym (map_below_none _)
+
+pub push-requires : goal.push-requires
+push-requires g c = marks_few _ _ _ c.loop-item.invariant (omega arith)

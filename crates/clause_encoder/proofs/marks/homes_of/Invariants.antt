@@ -5,4 +5,4 @@ use Rattle.clause_list.specs.Cones.{home}
 use Rattle.clause_encoder.proofs.marks.homes_of.Given as goal
 
 abbrev pub invariant-loop-step : goal.invariant-loop-step
-invariant-loop-step g l = (l.homes.items ≡ map (home (g.M.Moves.table l.table l.inst)) (from_below 0 l.step)) × (l.marks.items ≡ home (g.M.Moves.table l.table l.inst) l.step)
+invariant-loop-step g l = (l.homes.items ≡ map (home (g.M.Moves.table l.table l.inst)) (from_below 0 l.step)) × (l.marks ≡ home (g.M.Moves.table l.table l.inst) l.step)

@@ -1,5 +1,5 @@
 -- Why `gaps_of` does what its contract says.
-use Rattle.std.proofs.Common.{◌∙◌, ◌≡◌, ◌≤◌, ◌<◌, ◌+◌, ◌-◌, ◌^◌, [], length, sym, ap, arith}
+use Rattle.std.proofs.Common.{◌∙◌, [], length, sym, arith}
 use Rattle.std.specs.Prelude.{slice_index}
 use Rattle.clause_list.specs.Numbers.{section_of}
 use Rattle.clause_list.specs.Orders.{place_in_section, first_gap}

@@ -1,5 +1,5 @@
 -- Why `places_of` does what its contract says.
-use Rattle.std.proofs.Common.{◌∙◌, ◌≡◌, ◌≤◌, [], length, sym, ap, arith}
+use Rattle.std.proofs.Common.{◌∙◌, [], length, sym, ap, arith}
 use Rattle.std.specs.Prelude.{nat_eq}
 use Rattle.std.specs.List.{position_or_len}
 use Rattle.clause_list.specs.Numbers.{section_of}

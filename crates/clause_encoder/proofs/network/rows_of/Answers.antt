@@ -1,5 +1,5 @@
 -- Why `rows_of` does what its contract says.
-use Rattle.std.proofs.Common.{◌∙◌, ◌≡◌, ◌++◌, ◌∷◌, [], sym, ap}
+use Rattle.std.proofs.Common.{◌∙◌, sym}
 use Rattle.clause_list.specs.Numbers.{section_of}
 use Rattle.clause_encoder.specs.NetworkStore.{sections_alone}
 use Rattle.clause_encoder.proofs.MarkLemmas.{rows_none}

@@ -1,6 +1,4 @@
 -- Why `sections_of` does what its contract says.
-use Rattle.std.proofs.Common.{◌≡◌, ◌+◌, ◌≤◌, length, ap, arith, ◌∙◌}
-use Rattle.std.proofs.lemmas.List.{length-map}
 use Rattle.clause_encoder.proofs.NetworkLemmas.{mapped_more}
 use Rattle.clause_encoder.proofs.network.sections_of.Goals as goal
 

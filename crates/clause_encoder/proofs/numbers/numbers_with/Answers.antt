@@ -1,5 +1,5 @@
 -- Why `numbers_with` does what its contract says.
-use Rattle.std.proofs.Common.{◌≡◌, ◌≤◌, arith}
+use Rattle.std.proofs.Common.{◌≤◌, arith}
 use Rattle.clause_list.specs.Coding.{first_of_count}
 use Rattle.clause_encoder.specs.TableLists.{tables_of}
 use Rattle.clause_encoder.proofs.EncodeLemmas.{are_numbers, first_le}

@@ -1,5 +1,4 @@
 -- Why `write_stand` does what its contract says.
-use Rattle.std.proofs.Common.{refl}
 use Rattle.clause_list.specs.StopClauses.{stand_clauses}
 use Rattle.clause_encoder.proofs.stand.write_stand.Goals as goal
 

@@ -1,5 +1,4 @@
 -- Why `write_stop_after_entry` does what its contract says.
-use Rattle.std.proofs.Common.{refl}
 use Rattle.clause_list.specs.StopClauses.{stop_after_entry_clauses}
 use Rattle.clause_encoder.proofs.stop_in_run.write_stop_after_entry.Goals as goal
 

@@ -1,5 +1,4 @@
 -- Why `write_stop_met` does what its contract says.
-use Rattle.std.proofs.Common.{refl}
 use Rattle.clause_list.specs.StopClauses.{stop_met_clauses}
 use Rattle.clause_encoder.proofs.stop_met.write_stop_met.Goals as goal
 

@@ -1,8 +1,7 @@
 -- Why `write_touched` does what its contract says.
 use Rattle.std.proofs.Common.{refl}
-use Rattle.cell_net.specs.declared.cells.DirCell.{DirCell}
 use Rattle.clause_encoder.specs.Fitting.{touching_all, touching_one}
-use Rattle.clause_encoder.proofs.WritingLemmas.{each_more, each_done, each_full, each_fits, takes_none}
+use Rattle.clause_encoder.proofs.WritingLemmas.{each_more, each_done, each_full, each_fits}
 use Rattle.clause_encoder.proofs.touch.write_touched.Goals as goal
 
 pub write_touching-requires-clause-clauses : goal.write_touching-requires-clause-clauses

@@ -1,5 +1,4 @@
 -- Why `write_touches` does what its contract says.
-use Rattle.std.proofs.Common.{refl}
 use Rattle.clause_list.specs.RunClauses.{touch_clauses}
 use Rattle.clause_encoder.proofs.touch.write_touches.Goals as goal
 

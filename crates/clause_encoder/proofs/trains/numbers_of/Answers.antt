@@ -1,5 +1,5 @@
 -- Why `numbers_of` does what its contract says.
-use Rattle.std.proofs.Common.{◌≡◌, ◌∙◌, ◌<◌, ◌++◌, ◌∷◌, [], length, get_or, sym, ap, arith}
+use Rattle.std.proofs.Common.{◌∙◌, ◌<◌, ◌++◌, ◌∷◌, [], length, sym, ap, arith}
 use Rattle.std.proofs.lemmas.List.{get_or-map, length-map}
 use Rattle.clause_list.specs.WholeList.{no_table}
 use Rattle.clause_encoder.specs.TableLists.{table_over, tables_of}

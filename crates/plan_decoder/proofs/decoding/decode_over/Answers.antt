@@ -9,21 +9,21 @@ pub plan_of-requires-clause-numbers_for_each : goal.plan_of-requires-clause-numb
 plan_of-requires-clause-numbers_for_each g c =
     let tables = tables_of g.M.Moves.table c.args.inst.now c.args.tables.now in
     let values = c.args.valuation.now.values in
-    let told : TellsChains values c.args.inst.now tables = tells values c.args.inst.now tables (λ gaps. c.valuations_tell_chains.ensures.free values c.args.inst.now gaps tables) (λ gaps layout. c.valuations_tell_chains.ensures.given values c.args.inst.now gaps tables layout) c.parts-parts.ensures.rules (record { for_each = size_of g.M.Moves.table c.args.inst.now c.args.tables.now ∙ c.requires.for_each; each = c.rules_of.ensures }) c.requires.satisfied in
+    let told : TellsChains values c.args.inst.now tables = tells values c.args.inst.now tables (λ gaps. c.valuations_tell_chains.ensures.free values c.args.inst.now gaps tables) (λ gaps layout. c.valuations_tell_chains.ensures.given values c.args.inst.now gaps tables layout) c.parts-parts.ensures.rules (record { for_each = size_of g.M.Moves.table c.args.inst.now c.args.tables.now ∙ c.requires.for_each; each = c.know_tables.ensures.rules }) c.requires.satisfied in
     numbers_for_each values c.args.inst.now tables c.args.map.now.trains told c.requires.map.trains
 
 pub plan_of-requires-clause-inside : goal.plan_of-requires-clause-inside
 plan_of-requires-clause-inside g c =
     let tables = tables_of g.M.Moves.table c.args.inst.now c.args.tables.now in
     let values = c.args.valuation.now.values in
-    let told : TellsChains values c.args.inst.now tables = tells values c.args.inst.now tables (λ gaps. c.valuations_tell_chains.ensures.free values c.args.inst.now gaps tables) (λ gaps layout. c.valuations_tell_chains.ensures.given values c.args.inst.now gaps tables layout) c.parts-parts.ensures.rules (record { for_each = size_of g.M.Moves.table c.args.inst.now c.args.tables.now ∙ c.requires.for_each; each = c.rules_of.ensures }) c.requires.satisfied in
+    let told : TellsChains values c.args.inst.now tables = tells values c.args.inst.now tables (λ gaps. c.valuations_tell_chains.ensures.free values c.args.inst.now gaps tables) (λ gaps layout. c.valuations_tell_chains.ensures.given values c.args.inst.now gaps tables layout) c.parts-parts.ensures.rules (record { for_each = size_of g.M.Moves.table c.args.inst.now c.args.tables.now ∙ c.requires.for_each; each = c.know_tables.ensures.rules }) c.requires.satisfied in
     inside_of values c.as_slice-values.result.now c.args.inst.now tables c.args.map.now.trains told c.as_slice-values.ensures c.requires.map.trains
 
 pub returns-clause-chains : goal.returns-clause-chains
 returns-clause-chains g c =
     let tables = tables_of g.M.Moves.table c.args.inst.now c.args.tables.now in
     let values = c.args.valuation.now.values in
-    let told : TellsChains values c.args.inst.now tables = tells values c.args.inst.now tables (λ gaps. c.valuations_tell_chains.ensures.free values c.args.inst.now gaps tables) (λ gaps layout. c.valuations_tell_chains.ensures.given values c.args.inst.now gaps tables layout) c.parts-parts.ensures.rules (record { for_each = size_of g.M.Moves.table c.args.inst.now c.args.tables.now ∙ c.requires.for_each; each = c.rules_of.ensures }) c.requires.satisfied in
+    let told : TellsChains values c.args.inst.now tables = tells values c.args.inst.now tables (λ gaps. c.valuations_tell_chains.ensures.free values c.args.inst.now gaps tables) (λ gaps layout. c.valuations_tell_chains.ensures.given values c.args.inst.now gaps tables layout) c.parts-parts.ensures.rules (record { for_each = size_of g.M.Moves.table c.args.inst.now c.args.tables.now ∙ c.requires.for_each; each = c.know_tables.ensures.rules }) c.requires.satisfied in
     chains_of values c.as_slice-values.result.now c.args.inst.now tables c.args.map.now.trains c.in_ok-layout.layout c.in_ok-plan.plan told c.as_slice-values.ensures c.requires.map.trains c.in_ok-layout.ensures c.in_ok-plan.ensures
 
 pub returns-clause-borders : goal.returns-clause-borders

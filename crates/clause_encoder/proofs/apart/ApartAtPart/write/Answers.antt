@@ -1,5 +1,4 @@
 -- Why `ApartAtPart::write` does what its contract says.
-use Rattle.std.proofs.Common.{refl}
 use Rattle.clause_list.specs.PairClauses.{apart_at}
 use Rattle.clause_encoder.proofs.apart.ApartAtPart.write.Goals as goal
 

@@ -1,5 +1,4 @@
 -- Why `ApartFromPart::write` does what its contract says.
-use Rattle.std.proofs.Common.{refl}
 use Rattle.clause_list.specs.PairClauses.{apart_from}
 use Rattle.clause_encoder.proofs.apart.ApartFromPart.write.Goals as goal
 

@@ -1,5 +1,4 @@
 -- Why `write` of `GoneAt` does what its contract says.
-use Rattle.std.proofs.Common.{refl}
 use Rattle.clause_list.specs.RunClauses.{gone_at}
 use Rattle.clause_encoder.proofs.ended.GoneAtPart.write.Goals as goal
 

@@ -1,5 +1,5 @@
 -- Why `write` of `FamilyOf` does what its contract says.
-use Rattle.std.proofs.Common.{◌≡◌, ◌<◌, length, sym, subst, arith}
+use Rattle.std.proofs.Common.{◌<◌, length, sym, subst, arith}
 use Rattle.std.specs.Prelude.{OnOk, IfErr}
 use Rattle.clause_encoder.specs.Writing.{AreClauses, Takes, IsCause}
 use Rattle.clause_encoder.specs.Families.{family_of}

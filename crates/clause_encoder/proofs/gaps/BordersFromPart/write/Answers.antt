@@ -1,5 +1,4 @@
 -- Why `BordersFromPart::write` does what its contract says.
-use Rattle.std.proofs.Common.{refl}
 use Rattle.clause_list.specs.BorderClauses.{borders_from}
 use Rattle.clause_encoder.proofs.gaps.BordersFromPart.write.Goals as goal
 

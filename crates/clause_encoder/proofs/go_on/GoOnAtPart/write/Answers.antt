@@ -1,5 +1,4 @@
 -- Why `write` of `GoOnAt` does what its contract says.
-use Rattle.std.proofs.Common.{refl}
 use Rattle.clause_list.specs.RunClauses.{goes_on_at}
 use Rattle.clause_encoder.proofs.go_on.GoOnAtPart.write.Goals as goal
 

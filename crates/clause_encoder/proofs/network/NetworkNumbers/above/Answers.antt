@@ -1,5 +1,5 @@
 -- Why `NetworkNumbers::above` does what its contract says.
-use Rattle.std.proofs.Common.{◌∙◌, ◌≡◌, ◌<◌, length, ap, arith}
+use Rattle.std.proofs.Common.{◌∙◌, arith}
 use Rattle.clause_encoder.proofs.NetworkLemmas.{place_at, above_at, above_members}
 use Rattle.clause_encoder.proofs.network.NetworkNumbers.above.Goals as goal
 

@@ -1,5 +1,5 @@
 -- Why `NetworkNumbers::build` does what its contract says.
-use Rattle.std.proofs.Common.{◌≡◌, ◌≤◌, length, map, [], ap, subst, arith}
+use Rattle.std.proofs.Common.{◌≡◌, length, map, [], subst}
 use Rattle.clause_list.specs.Ranges.{below}
 use Rattle.clause_list.specs.Numbers.{section_of, first_of_trains}
 use Rattle.clause_list.specs.Orders.{place_in_section, first_gap}

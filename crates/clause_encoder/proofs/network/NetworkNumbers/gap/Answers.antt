@@ -1,5 +1,5 @@
 -- Why `NetworkNumbers::gap` does what its contract says.
-use Rattle.std.proofs.Common.{◌∙◌, ◌<◌, ◌+◌, ◌-◌, ◌^◌, ◌≡◌, arith}
+use Rattle.std.proofs.Common.{◌∙◌, arith}
 use Rattle.clause_encoder.proofs.NetworkLemmas.{gap_at, place_at, gap_is}
 use Rattle.clause_encoder.proofs.network.NetworkNumbers.gap.Goals as goal
 

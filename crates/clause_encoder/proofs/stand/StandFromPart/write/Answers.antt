@@ -1,5 +1,4 @@
 -- Why `write` of `StandFrom` does what its contract says.
-use Rattle.std.proofs.Common.{refl}
 use Rattle.clause_list.specs.StopClauses.{stands_from}
 use Rattle.clause_encoder.proofs.stand.StandFromPart.write.Goals as goal
 

@@ -1,5 +1,4 @@
 -- Why `write` of `Stand` does what its contract says.
-use Rattle.std.proofs.Common.{refl}
 use Rattle.clause_list.specs.StopClauses.{stands_while}
 use Rattle.clause_encoder.proofs.stand.StandPart.write.Goals as goal
 

@@ -1,5 +1,4 @@
 -- Why `write` of `TouchesAt` does what its contract says.
-use Rattle.std.proofs.Common.{refl}
 use Rattle.clause_list.specs.RunClauses.{touches_at}
 use Rattle.clause_encoder.proofs.touch.TouchesAtPart.write.Goals as goal
 

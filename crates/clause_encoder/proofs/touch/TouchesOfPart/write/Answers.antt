@@ -1,7 +1,4 @@
 -- Why `write` of `TouchesOf` does what its contract says.
-use Rattle.std.proofs.Common.{◌≡◌, ◌∙◌, sym, ap, subst}
-use Rattle.std.specs.Prelude.{OnOk, IfErr}
-use Rattle.clause_list.specs.Numbers.{cone, sweep}
 use Rattle.clause_list.specs.RunClauses.{touches_of, touching}
 use Rattle.clause_encoder.specs.Fitting.{touching_all}
 use Rattle.clause_encoder.proofs.touch.TouchesOfPart.write.Goals as goal

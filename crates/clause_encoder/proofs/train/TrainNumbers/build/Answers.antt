@@ -1,5 +1,5 @@
 -- Why `TrainNumbers::build` does what its contract says.
-use Rattle.std.proofs.Common.{◌∙◌, arith}
+use Rattle.std.proofs.Common.{arith}
 use Rattle.clause_encoder.proofs.BuildLemmas.{cones_rise, cone_count}
 use Rattle.clause_encoder.proofs.train.TrainNumbers.build.Goals as goal
 

@@ -1,8 +1,6 @@
 -- Why `TrainNumbers::met` does what its contract says.
-use Rattle.std.proofs.Common.{◌≡◌, ◌∙◌, ◌<◌, ◌≤◌, ap, arith, max}
-use Rattle.clause_list.specs.Numbers.{first_waits, behind_train}
+use Rattle.std.proofs.Common.{◌≡◌, ◌∙◌, ap, arith, max}
 use Rattle.clause_list.specs.StopClauses.{stop_at}
-use Rattle.clause_encoder.specs.TrainStore.{first_of_stop}
 use Rattle.clause_encoder.proofs.TrainLemmas.{met_few, firsts_rise, stored_stop, kept_is}
 use Rattle.clause_encoder.proofs.train.TrainNumbers.met.Goals as goal
 

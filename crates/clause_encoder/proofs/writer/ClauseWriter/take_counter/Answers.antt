@@ -1,5 +1,5 @@
 -- Why `ClauseWriter::take_counter` does what its contract says.
-use Rattle.std.proofs.Common.{◌≡◌, ◌+◌, ◌*◌, ◌^◌, ◌<◌, ◌≤◌, length, sym, arith}
+use Rattle.std.proofs.Common.{◌*◌, ◌^◌, ◌≤◌, length, sym, arith}
 use Rattle.border_counter.specs.Counter.{counter_clauses}
 use Rattle.clause_encoder.proofs.CounterLemmas.{counter_few, writer_counted}
 use Rattle.clause_encoder.proofs.writer.ClauseWriter.take_counter.Goals as goal

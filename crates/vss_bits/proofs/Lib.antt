@@ -1,0 +1,2 @@
+-- The lemmas of `vss_bits`, each file a subject.
+mod BitLemmas
