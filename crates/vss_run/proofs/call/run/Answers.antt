@@ -42,8 +42,8 @@ returns-clause-ends g c =
 
 pub returns-clause-read_back : goal.returns-clause-read_back
 returns-clause-read_back g c =
-    fault_reads_back (map string_bytes c.args.words.now) (g.H.Shelf.shown c.args.shelf.now) (g.H.Shelf.shown c.said_to-said.new.shelf) _ _
+    fault_reads_back (map string_bytes c.args.words.now) (g.H.Shelf.shown c.args.shelf.now) (g.H.Shelf.shown c.said_to-said.new.shelf) (g.K.Sink.shown c.args.out.now) (g.K.Sink.shown c.print_said.new.out)
 
 pub returns-then-is_memory-clause-read_back : goal.returns-then-is_memory-clause-read_back
 returns-then-is_memory-clause-read_back g c =
-    memory_reads_back (map string_bytes c.args.words.now) (g.H.Shelf.shown c.args.shelf.now) (g.H.Shelf.shown c.said_to-said.new.shelf) _ _
+    memory_reads_back (map string_bytes c.args.words.now) (g.H.Shelf.shown c.args.shelf.now) (g.H.Shelf.shown c.said_to-said.new.shelf) (g.K.Sink.shown c.args.out.now) (g.K.Sink.shown c.args.out.now)
