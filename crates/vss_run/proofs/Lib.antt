@@ -1,2 +1,3 @@
 -- Laws of calls.
 pub mod Calls
+pub mod ReadBack

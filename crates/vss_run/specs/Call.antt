@@ -1,10 +1,17 @@
 -- What a call of the program says, and how it ends.
-use Rattle.std.specs.Prelude.{◌≡◌, ℕ, List, Result, IsTrue}
+use Rattle.std.specs.Prelude.{◌≡◌, ℕ, List, length, Some, Result, Ok, IsTrue}
+use Rattle.cell_net.specs.declared.ids.CandidateId.{CandidateId}
+use Rattle.cell_net.specs.declared.plans.Plan.{Plan}
+use Rattle.derivation_log.specs.declared.step.Refutation.{Refutation}
 use Rattle.vss_io.specs.Shown.{Files, Output}
 use Rattle.vss_io.specs.Written.{followed_by, PutsFront}
 use Rattle.vss_stages.specs.Stages.{Then, IsSettled}
 use Rattle.vss_stages.specs.declared.stop.Stop.{Stop}
-use Rattle.vss_words.specs.Commands.{NamesTask}
+use Rattle.vss_report.specs.Written.{HasDesign, HasRefutation}
+use Rattle.vss_report.specs.declared.outcome.Outcome.{Outcome}
+use Rattle.vss_words.specs.Commands.{command, NamesTask}
+use Rattle.vss_words.specs.declared.command.Command.TheVariants.{Judge, Check}
+use Rattle.vss_words.specs.declared.command.DocumentNames.{DocumentNames}
 use Rattle.vss_jobs.specs.Jobs.{IsJob}
 use Rattle.vss_jobs.specs.declared.refusal.Refusal.{Refusal}
 use Rattle.vss_answers.specs.Answers.{IsRightAnswer}
@@ -13,8 +20,10 @@ use Rattle.vss_answers.specs.Statuses.{status_of}
 use Rattle.vss_answers.specs.Texts.{said_text}
 use Rattle.vss_answers.specs.Truth.{IsTrueAnswer}
 use Rattle.vss_answers.specs.declared.answer.Answer.{Answer}
+use Rattle.vss_answers.specs.declared.answer.Answer.TheVariants.{Lawful, Proved}
 use Rattle.vss_answers.specs.declared.status.Status.{Status}
 use Rattle.vss_answers.specs.declared.status.Status.TheVariants as status
+use Rattle.written_reports.specs.WrittenReports.{HoldsReport}
 
 -- what is right to say: words and files make a job, and this answers it; or they make none, and this is why
 abbrev pub IsRight : List (List ℕ) → Files → Files → Result Answer (Stop Refusal) → Type 0
@@ -72,3 +81,20 @@ IsEndedWith said before now ended = SaysAlike said before now ended
 abbrev pub AreDecisive : List (List ℕ) → Files → Files → Output → Output → Status → Type 0
 AreDecisive words files after before now ended =
     IsTrue files.tells → (said : Result Answer (Stop Refusal)) → IsSettled said → IsRight words files after said → IsEndedWith said before now ended
+
+-- words that ask to judge the report of how a search of the same documents ended, where it has a design, are told that it is lawful
+abbrev pub JudgesWritten : List (List ℕ) → Files → Files → Output → Output → Status → Type 0
+JudgesWritten words files after before now ended =
+    (documents : DocumentNames) (report : List ℕ) (outcome : Outcome) (borders : List CandidateId) (plan : Plan) → command words ≡ Some (Judge documents report) →
+    HoldsReport files after documents report outcome → HasDesign outcome borders plan → IsEndedWith (Ok (Lawful (length borders))) before now ended
+
+-- words that ask to check such a report, where it has a refutation, are told that it is proved
+abbrev pub ChecksWritten : List (List ℕ) → Files → Files → Output → Output → Status → Type 0
+ChecksWritten words files after before now ended =
+    (documents : DocumentNames) (report : List ℕ) (outcome : Outcome) (r : Refutation) → command words ≡ Some (Check documents report) →
+    HoldsReport files after documents report outcome → HasRefutation outcome r → IsEndedWith (Ok (Proved r.bound)) before now ended
+
+-- where a shelf tells its files, written reports are read back
+abbrev pub ReadsBack : List (List ℕ) → Files → Files → Output → Output → Status → Type 0
+ReadsBack words files after before now ended =
+    IsTrue files.tells → JudgesWritten words files after before now ended × ChecksWritten words files after before now ended

@@ -6,7 +6,7 @@ ghost use Rattle.vss_io.specs.Reading.{Keeps};
 ghost use Rattle.vss_stages.specs.Stages.{Ends as EndsStage};
 ghost use Rattle.vss_words.specs.Commands.{command, NamesTask};
 ghost use Rattle.vss_jobs.specs.Asked.{files_asked_for};
-ghost use Rattle.vss_run.specs.Call.{IsRight, CallEnds, AreDecisive};
+ghost use Rattle.vss_run.specs.Call.{IsRight, CallEnds, AreDecisive, ReadsBack};
 
 use solver_face::Solver;
 use std::alloc::Global;
@@ -16,6 +16,7 @@ use vss_answers::{
 use vss_io::{Shelf, Sink};
 use vss_jobs::{Refusal, job_of, jobs_are_one};
 use vss_stages::Stop;
+use written_reports::written_reports_are_right;
 
 /// Does what the words ask for, with files from the shelf and searches by the solver `S`, and writes what it has to say.
 /// Everything is computed before the first byte is written, and printing takes no memory.
@@ -27,6 +28,7 @@ pub fn run<S: Solver, H: Shelf, K: Sink>(
 ) -> Status
     ensures ends { CallEnds (map string_bytes words.now) (H.shown shelf.old) (H.shown shelf.new) (K.shown out.old) (K.shown out.new) result }
     ensures decisive { AreDecisive (map string_bytes words.now) (H.shown shelf.old) (H.shown shelf.new) (K.shown out.old) (K.shown out.new) result }
+    ensures read_back { ReadsBack (map string_bytes words.now) (H.shown shelf.old) (H.shown shelf.new) (K.shown out.old) (K.shown out.new) result }
     ensures write_fault { result ≡ Status.WriteFault → Rose (K.shown out.old).faults (K.shown out.new).faults }
     ensures files_kept { Keeps (H.shown shelf.old) (H.shown shelf.new) (files_asked_for (command (map string_bytes words.now))) }
     ensures never_falls { (K.shown out.old).faults ≤ (K.shown out.new).faults }
@@ -34,6 +36,7 @@ pub fn run<S: Solver, H: Shelf, K: Sink>(
     jobs_are_one();
     answers_are_one();
     answers_are_true();
+    written_reports_are_right();
     let said = said_to::<S, H>(alloc, words, shelf);
     if is_memory(&said) {
         return Status::Memory;

@@ -5,7 +5,7 @@ ghost use Rattle.vss_io.specs.Faults.{Rose};
 ghost use Rattle.vss_io.specs.Reading.{Keeps};
 ghost use Rattle.vss_words.specs.Commands.{command};
 ghost use Rattle.vss_jobs.specs.Asked.{files_asked_for};
-ghost use Rattle.vss_run.specs.Call.{CallEnds, AreDecisive};
+ghost use Rattle.vss_run.specs.Call.{CallEnds, AreDecisive, ReadsBack};
 
 use solver_face::Solver;
 use std::alloc::Global;
@@ -22,6 +22,7 @@ pub fn run<S: Solver, H: Shelf, K: Sink>(
 ) -> Status
     ensures ends { CallEnds (map string_bytes words.now) (H.shown shelf.old) (H.shown shelf.new) (K.shown out.old) (K.shown out.new) result }
     ensures decisive { AreDecisive (map string_bytes words.now) (H.shown shelf.old) (H.shown shelf.new) (K.shown out.old) (K.shown out.new) result }
+    ensures read_back { ReadsBack (map string_bytes words.now) (H.shown shelf.old) (H.shown shelf.new) (K.shown out.old) (K.shown out.new) result }
     ensures write_fault { result ≡ Status.WriteFault → Rose (K.shown out.old).faults (K.shown out.new).faults }
     ensures files_kept { Keeps (H.shown shelf.old) (H.shown shelf.new) (files_asked_for (command (map string_bytes words.now))) }
     ensures never_falls { (K.shown out.old).faults ≤ (K.shown out.new).faults }
