@@ -1,6 +1,8 @@
-//! Tests of solvers by formulas, written for any solver, and the plain solver on all of them.
+//! Tests of solvers by formulas, written for any solver, and both solvers on all of them.
 
 mod formulas;
 mod learning;
 mod plain;
+mod rhythm;
 mod scenes;
+mod watch;

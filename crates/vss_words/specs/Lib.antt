@@ -2,3 +2,4 @@
 pub mod Commands
 pub mod Forms
 pub mod Numbers
+pub mod Plain

@@ -4,6 +4,7 @@
 mod command;
 mod fault;
 mod forms;
+mod laws;
 mod numbers;
 mod parse;
 mod reading;
@@ -12,4 +13,5 @@ mod words;
 
 pub use command::{Command, DocumentNames};
 pub use fault::WordsFault;
+pub use laws::plain_words_are_taken;
 pub use words::command_of;
