@@ -1,12 +1,13 @@
 //! The items that a train can have at each step.
 
 use super::nets::{Net, ROW, Train, instance_of};
-use cell_net::TrainId;
-use clause_encoder::gather_cones;
+use cell_net::{Instance, TrainId};
+use clause_encoder::{GatherFault, gather_cones};
 use std::alloc::Global;
 use std::process::Abort;
 use std::test::Fail;
 use sweep_table::SweepTable;
+use vss_rows::Rows;
 
 /// A net, for how many steps behind its first one its train may enter, for how many it may be there, and its cones.
 type Row = (Net, u32, u32, &'static [&'static [u32]]);
@@ -46,8 +47,8 @@ static ROWS: [Row; 8] = [
 
 #[test]
 fn cones_hold_what_an_entry_leads_to_and_leads_to_a_goal(rt: HostRuntime) -> Result<(), Fail> {
-    for row in ROWS {
-        check_row(&rt, rt.alloc(), row)?;
+    for row in ROWS.iter() {
+        check_row(&rt, rt.alloc(), *row)?;
     }
     Ok(())
 }
@@ -55,13 +56,28 @@ fn cones_hold_what_an_entry_leads_to_and_leads_to_a_goal(rt: HostRuntime) -> Res
 fn check_row(rt: &impl Abort, alloc: Global, row: Row) -> Result<(), Fail> {
     let (net, window, last, want) = row;
     let inst = instance_of(rt, alloc, net)?;
-    assert!(rt; inst.train_count() > 0);
-    let table = SweepTable::build(alloc, &inst, TrainId(0))?;
-    assert!(rt; last < 400);
-    let cones = gather_cones(alloc, &inst, &table, window, last)?;
+    let cones = cones_of(rt, alloc, &inst, window, last)??;
+    check_cones(rt, &cones, want);
+    Ok(())
+}
+
+fn check_cones(rt: &impl Abort, cones: &Rows<u32>, want: &[&[u32]]) {
     assert_eq!(rt; cones.len(), want.len());
     for step in 0..cones.len() {
         assert_eq!(rt; cones.row(step), want[step]);
     }
-    Ok(())
+}
+
+/// The cones of the instance's first train.
+pub(super) fn cones_of(
+    rt: &impl Abort,
+    alloc: Global,
+    inst: &Instance,
+    window: u32,
+    last: u32,
+) -> Result<Result<Rows<u32>, GatherFault>, Fail> {
+    assert!(rt; inst.train_count() > 0);
+    assert!(rt; last < 400);
+    let table = SweepTable::build(alloc, inst, TrainId(0))?;
+    Ok(gather_cones(alloc, inst, &table, window, last))
 }

@@ -142,22 +142,29 @@ static ROWS: [(Large, Asked, Sizes); 11] = [
 
 #[test]
 fn lists_are_refused_beyond_their_limits(rt: HostRuntime) -> Result<(), Fail> {
-    for (large, asked, want) in ROWS {
-        let inst = built(&rt, rt.alloc(), large_parts(rt.alloc(), large)?)?;
-        let found = encode_asked(&rt, rt.alloc(), &inst, asked)?;
-        assert!(rt; sizes_of(&rt, found) == want);
+    for &(large, asked, want) in ROWS.iter() {
+        assert!(rt; large_sizes(&rt, rt.alloc(), large, asked)? == want);
     }
     Ok(())
+}
+
+fn large_sizes(rt: &impl Abort, alloc: Global, large: Large, asked: Asked) -> Result<Sizes, Fail> {
+    let inst = built(rt, alloc, large_parts(alloc, large)?)?;
+    Ok(sizes_of(rt, encode_asked(rt, alloc, &inst, asked)?))
 }
 
 // A base has the clauses of a free task but its counter and its bound, and its own count of variables.
 #[test]
 fn a_base_is_refused_beyond_its_limits(rt: HostRuntime) -> Result<(), Fail> {
-    for (large, more, want) in BASES {
-        let inst = built(&rt, rt.alloc(), large_parts(rt.alloc(), large)?)?;
-        assert!(rt; sizes_of(&rt, encode_base(rt.alloc(), &inst, more)) == want);
+    for &(large, more, want) in BASES.iter() {
+        assert!(rt; base_sizes(&rt, rt.alloc(), large, more)? == want);
     }
     Ok(())
+}
+
+fn base_sizes(rt: &impl Abort, alloc: Global, large: Large, more: u32) -> Result<Sizes, Fail> {
+    let inst = built(rt, alloc, large_parts(alloc, large)?)?;
+    Ok(sizes_of(rt, encode_base(alloc, &inst, more)))
 }
 
 /// Three cells with a candidate between each two, and no train.
@@ -184,8 +191,9 @@ static BASES: [(Large, u32, Sizes); 5] = [
 ];
 
 fn sizes_of(rt: &impl Abort, found: Result<Encoded, EncodeRefusal>) -> Sizes {
-    let Encoded { formula, .. } = found?;
-    Ok((formula.vars(), formula.len(), literals_of(rt, &formula)))
+    let found = found?;
+    let formula = &found.formula;
+    Ok((formula.vars(), formula.len(), literals_of(rt, formula)))
 }
 
 fn literals_of(rt: &impl Abort, formula: &Formula) -> usize {

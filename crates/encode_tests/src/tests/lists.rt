@@ -2,9 +2,7 @@
 
 use super::nets::{Asked, Net, ROW, SHORT_ROW, encoded, lit};
 use super::small::{PAIR, POINT, RING, STOP, WINDOW};
-use clause_encoder::Encoded;
-use sat_core::{ClauseId, Lit};
-use std::alloc::Global;
+use sat_core::{ClauseId, Formula, Lit};
 use std::process::Abort;
 use std::test::Fail;
 
@@ -284,22 +282,26 @@ static ROWS: [Row; 7] = [
 
 #[test]
 fn clauses_stand_in_their_order(rt: HostRuntime) -> Result<(), Fail> {
-    for row in ROWS {
-        check_row(&rt, rt.alloc(), row)?;
+    for &(net, asked, vars, clauses) in ROWS.iter() {
+        let found = encoded(&rt, rt.alloc(), net, asked)?;
+        assert_eq!(rt; found.formula.vars(), vars);
+        check_clauses(&rt, &found.formula, clauses);
     }
     Ok(())
 }
 
-fn check_row(rt: &impl Abort, alloc: Global, row: Row) -> Result<(), Fail> {
-    let (net, asked, vars, clauses) = row;
-    let Encoded { formula, .. } = encoded(rt, alloc, net, asked)?;
-    assert_eq!(rt; formula.vars(), vars);
+fn check_clauses(rt: &impl Abort, formula: &Formula, clauses: &[&[i32]]) {
     assert_eq!(rt; formula.len() as usize, clauses.len());
     for (place, numbers) in clauses.iter().enumerate() {
-        let id = place as u32 + 1;
-        assert!(rt; id <= formula.len());
-        let lits: Vec<Lit> = numbers.iter().map(|number| lit(*number)).collect(alloc)?;
-        assert_eq!(rt; formula.clause(ClauseId(id)), lits.as_slice());
+        let id = (place as u32).wrapping_add(1);
+        assert!(rt; 0 < id && id <= formula.len());
+        check_clause(rt, formula.clause(ClauseId(id)), numbers);
     }
-    Ok(())
+}
+
+fn check_clause(rt: &impl Abort, lits: &[Lit], numbers: &[i32]) {
+    assert_eq!(rt; lits.len(), numbers.len());
+    for place in 0..lits.len() {
+        assert_eq!(rt; lits[place], lit(numbers[place]));
+    }
 }

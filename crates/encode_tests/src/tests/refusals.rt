@@ -1,14 +1,15 @@
 //! Instances without a formula, for their sweeps or their walks.
 
+use super::cones::cones_of;
 use super::nets::{
     Asked, Net, ROW, Train, built, cell_of, encode_asked, join_of, parts_of, train_of,
 };
-use cell_net::{InstanceParts, SectionId, TrainId};
-use clause_encoder::{EncodeRefusal, GatherFault, encode_base, gather_cones};
+use cell_net::{Instance, InstanceParts, SectionId, TrainId};
+use clause_encoder::{EncodeRefusal, GatherFault, encode_base};
 use std::alloc::{AllocError, Global};
 use std::process::Abort;
 use std::test::Fail;
-use sweep_table::SweepTable;
+use vss_rows::Rows;
 
 /// A chain of bundles in a section: its first node, and how many cells stand side by side between each node and the next, of
 /// which each is joined with each of the next.
@@ -85,32 +86,44 @@ static ROWS: [(&[Chain], &[Train], Option<EncodeRefusal>); 8] = [
 
 #[test]
 fn sweeps_are_looked_at_before_walks(rt: HostRuntime) -> Result<(), Fail> {
-    for (chains, trains, want) in ROWS {
+    for &(chains, trains, want) in ROWS.iter() {
         let inst = built(&rt, rt.alloc(), chain_parts(rt.alloc(), chains, trains)?)?;
-        let free = encode_asked(&rt, rt.alloc(), &inst, Asked::AtMost(0))?;
-        assert!(rt; free.err() == want);
-        let given = encode_asked(&rt, rt.alloc(), &inst, Asked::Given(&[]))?;
-        assert!(rt; given.err() == want);
-        assert!(rt; encode_base(rt.alloc(), &inst, 0).err() == want);
+        check_refusals(&rt, rt.alloc(), &inst, want)?;
     }
+    Ok(())
+}
+
+fn check_refusals(
+    rt: &impl Abort,
+    alloc: Global,
+    inst: &Instance,
+    want: Option<EncodeRefusal>,
+) -> Result<(), Fail> {
+    assert!(rt; encode_asked(rt, alloc, inst, Asked::AtMost(0))?.err() == want);
+    assert!(rt; encode_asked(rt, alloc, inst, Asked::Given(&[]))?.err() == want);
+    assert!(rt; encode_base(alloc, inst, 0).err() == want);
     Ok(())
 }
 
 // Half of the 50,000 sweeps are up, so 80 steps of them are 2,000,000 items.
 #[test]
 fn cones_of_2000000_items_are_gathered(rt: HostRuntime) -> Result<(), Fail> {
-    let alloc = rt.alloc();
-    let inst = built(&rt, alloc, chain_parts(alloc, &[(0, 0, WIDE)], &[LONG])?)?;
-    assert!(rt; inst.train_count() > 0);
-    let table = SweepTable::build(alloc, &inst, TrainId(0))?;
-    let cones = gather_cones(alloc, &inst, &table, 0, 79)?;
+    let inst = built(
+        &rt,
+        rt.alloc(),
+        chain_parts(rt.alloc(), &[(0, 0, WIDE)], &[LONG])?,
+    )?;
+    let cones = cones_of(&rt, rt.alloc(), &inst, 0, 79)??;
+    check_wide(&rt, &cones);
+    assert!(rt; cones_of(&rt, rt.alloc(), &inst, 0, 80)?.err() == Some(GatherFault::TooMany));
+    Ok(())
+}
+
+fn check_wide(rt: &impl Abort, cones: &Rows<u32>) {
     assert_eq!(rt; cones.len(), 80);
     for step in 0..cones.len() {
         assert_eq!(rt; cones.row(step).len(), 25_000);
     }
-    let fault = gather_cones(alloc, &inst, &table, 0, 80).err();
-    assert!(rt; fault == Some(GatherFault::TooMany));
-    Ok(())
 }
 
 fn chain_parts(
