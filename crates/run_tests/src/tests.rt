@@ -6,6 +6,7 @@ mod breaches;
 mod documents;
 mod judging;
 mod lengths;
+mod networks;
 mod refusals;
 mod reports;
 mod words;

@@ -18,8 +18,9 @@ use vss_rows::Rows;
 
 impl SweepTable {
     /// The table of the train's sweeps. Where no way along the passages comes back to a cell, it is linear in
-    /// the directed cells of the sweeps, up to a search for each sweep and a sort of the joins, and in the
-    /// train's length times the cells and the joins. Where ways come back, more paths may be tried.
+    /// the directed cells of the sweeps, times the cells of one, up to a search for each sweep and a sort of
+    /// the joins, and in the train's length times the cells and the joins. Where ways come back, more paths
+    /// may be tried.
     pub fn build(alloc: Global, inst: &Instance, train: TrainId) -> Result<SweepTable, TableRefusal>
         requires { train.0 < length inst.now.trains }
         ensures sweeps { (t : TrainSpec) → slice_get inst.now.trains train.0 ≡ Some t → IfOk result (λ table. IsTableOf inst.now t (table_of inst.now table)) }

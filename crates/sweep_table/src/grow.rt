@@ -27,7 +27,8 @@ pub(crate) struct Growth<'a> {
 
 /// Every path of the train's length and an advance below this one, over which the train may advance
 /// so far: by the advance, then by the numbers. No path is lengthened from which no way is long enough; so
-/// where no way comes back to a cell, it is linear in the directed cells of what is found.
+/// where no way comes back to a cell, it is linear in the directed cells of what is found, times the cells of
+/// a path.
 pub(crate) fn gather(
     alloc: Global,
     inst: &Instance,

@@ -38,15 +38,15 @@ fn leading(text: &[u8], end: u8) -> Result<(u32, usize), Miss>
 {
     let mut value = 0;
     for (count, byte) in text.iter().enumerate() {
-        if *byte == end {
+        if !goes_on(text[0], count, *byte) {
+            if *byte != end {
+                return Err(Miss::Wrong);
+            }
             return if count == 0 {
                 Err(Miss::Wrong)
             } else {
                 Ok((value, count))
             };
-        }
-        if !goes_on(text[0], count, *byte) {
-            return Err(Miss::Wrong);
         }
         value = value * 10 + u32::from(*byte - b'0');
     }

@@ -1,4 +1,5 @@
 -- The lemmas of `watch_solver`, each file a subject.
+pub mod DropLemmas
 pub mod LiveLemmas
 pub mod LubyLemmas
 pub mod RoundLemmas

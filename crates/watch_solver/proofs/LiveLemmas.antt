@@ -1,10 +1,10 @@
 -- Live clauses in the order of their numbers: one more at the end, the first of them, those that aren't empty.
 use Rattle.std.proofs.Common.{◌≡◌, ◌≢◌, ℕ, zero, suc, ◌+◌, ◌-◌, ◌<◌, ◌≤◌, true, false, ◌⊎◌, inl, inr, List, [], ◌∷◌, ◌++◌, length, map, take, drop, get_or, refl, ap, sym, subst, ◌∙◌, arith}
-use Rattle.std.specs.Prelude.{All, Any, Contains, Some, None, nat_eq}
-use Rattle.std.proofs.lemmas.Bool.{ne_eqb}
+use Rattle.std.specs.Prelude.{All, AllPairs, Any, Contains, Some, None, nat_eq}
+use Rattle.std.proofs.lemmas.Bool.{ne_eqb, eq-eqb}
 use Rattle.std.proofs.lemmas.List.{append-nil, take-append-le, take_all, take-append-drop, length-map, get_or-map}
 use Rattle.std.proofs.lemmas.List.Elements.{All-nil, All-head, All-tail, All-cons, All-push, All-append}
-use Rattle.std.proofs.lemmas.List.Quantifiers.{Any-push}
+use Rattle.std.proofs.lemmas.List.Quantifiers.{Any-push, all_pairs_push}
 use Rattle.sat_core.specs.declared.literal.Lit.{Lit}
 use Rattle.sat_core.specs.declared.literal.ClauseId.{ClauseId}
 use Rattle.sat_core.specs.Hints.{NumberedClause, clause_of}
@@ -32,6 +32,12 @@ numbered_low first [] = All-nil (λ (clause : NumberedClause). clause.id.0 < fir
 numbered_low first (clause ∷ clauses) =
     All-cons (λ (c : NumberedClause). c.id.0 < first + length (clause ∷ clauses)) (record { id = record { 0 = first }; lits = clause }) (numbered_from (first + 1) clauses) (omega arith)
     (λ k d within. omega (arith, numbered_low (first + 1) clauses k d within))
+
+numbered_least : (first : ℕ) (clauses : List (List Lit)) → All (λ clause. first ≤ clause.id.0) (numbered_from first clauses)
+numbered_least first [] = All-nil (λ (clause : NumberedClause). first ≤ clause.id.0)
+numbered_least first (clause ∷ clauses) =
+    All-cons (λ (c : NumberedClause). first ≤ c.id.0) (record { id = record { 0 = first }; lits = clause }) (numbered_from (first + 1) clauses) (omega arith)
+    (λ k d within. omega (arith, numbered_least (first + 1) clauses k d within))
 
 pub numbered_upto : (last : ℕ) (live : List NumberedClause) (clauses : List (List Lit)) → live ≡ numbered_from 1 clauses → last ≡ length clauses → All (λ clause. clause.id.0 ≤ last) live
 numbered_upto last live clauses is count = subst (All (λ (c : NumberedClause). c.id.0 ≤ last)) (sym is) (λ k d within. omega (arith, count, numbered_low 1 clauses k d within))
@@ -70,6 +76,26 @@ any_push P live clause any = (any.0, any.1, omega (arith, any.2, Rattle.std.proo
 
 pub units_push : (units : List Lit) (live : List NumberedClause) (clause : NumberedClause) → All (λ lit. Any (λ c. c.lits ≡ lit ∷ []) live) units → All (λ lit. Any (λ c. c.lits ≡ lit ∷ []) (live ++ clause ∷ [])) units
 units_push units live clause all k d within = any_push (λ c. c.lits ≡ get_or units k d ∷ []) live clause (all k d within)
+
+-- ---- numbers that rise
+pub rising_push : (live : List NumberedClause) (clause : NumberedClause) → AllPairs (λ one later. one.id.0 < later.id.0) live → All (λ c. c.id.0 < clause.id.0) live → AllPairs (λ one later. one.id.0 < later.id.0) (live ++ clause ∷ [])
+rising_push live clause rising below = all_pairs_push (λ (one later : NumberedClause). one.id.0 < later.id.0) live clause rising below
+
+pub found_in : (live : List NumberedClause) → AllPairs (λ one later. one.id.0 < later.id.0) live → (k : ℕ) (d : NumberedClause) → k < length live → clause_of live (get_or live k d).id ≡ Some (get_or live k d).lits
+found_in [] rising k d within = absurd (omega arith)
+found_in (c ∷ live) rising zero d within = rw (eq-eqb c.id.0 c.id.0 refl) refl
+found_in (c ∷ live) rising (suc k) d within =
+    rw (ne_eqb c.id.0 (get_or live k d).id.0 (λ same. omega (arith, same, rising 0 (suc k) d (omega arith) within)))
+    (found_in live (λ i j e low high. rising (suc i) (suc j) e (omega (arith, low)) (omega (arith, high))) k d (omega (arith, within)))
+
+numbered_rises : (first : ℕ) (clauses : List (List Lit)) → AllPairs (λ one later. one.id.0 < later.id.0) (numbered_from first clauses)
+numbered_rises first [] i j d low high = absurd (omega arith)
+numbered_rises first (clause ∷ clauses) i zero d low high = absurd (omega (arith, low))
+numbered_rises first (clause ∷ clauses) zero (suc j) d low high = omega (arith, numbered_least (first + 1) clauses j d (omega (arith, high)))
+numbered_rises first (clause ∷ clauses) (suc i) (suc j) d low high = numbered_rises (first + 1) clauses i j d (omega (arith, low)) (omega (arith, high))
+
+pub rising_numbered : (live : List NumberedClause) (clauses : List (List Lit)) → live ≡ numbered_from 1 clauses → AllPairs (λ one later. one.id.0 < later.id.0) live
+rising_numbered live clauses is = subst (AllPairs (λ (one later : NumberedClause). one.id.0 < later.id.0)) (sym is) (numbered_rises 1 clauses)
 
 -- ---- where the empty clause is fresh
 empty_cases : (clauses : List NumberedClause) → All (λ c. c.lits ≢ []) clauses ⊎ Contains (map (λ (clause : NumberedClause). clause.lits) clauses) []

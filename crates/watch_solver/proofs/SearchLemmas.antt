@@ -1,15 +1,15 @@
 -- A search and its live clauses, one event further; and why what is learned may come next.
-use Rattle.std.proofs.Common.{◌≡◌, ◌≢◌, ℕ, ◌+◌, ◌-◌, ◌<◌, ◌≤◌, inl, inr, List, [], ◌∷◌, ◌++◌, length, map, drop, refl, ap, sym, subst, ◌∙◌, arith}
-use Rattle.std.specs.Prelude.{All, Any, Option, Some, None}
+use Rattle.std.proofs.Common.{◌≡◌, ◌≢◌, ℕ, ◌+◌, ◌-◌, ◌<◌, ◌≤◌, inl, inr, List, [], ◌∷◌, ◌++◌, length, map, drop, get_or, refl, ap, sym, subst, ◌∙◌, arith}
+use Rattle.std.specs.Prelude.{All, AllPairs, Any, Option, Some, None}
 use Rattle.std.proofs.lemmas.Bool.{cases_eq}
-use Rattle.std.proofs.lemmas.List.{length_push}
+use Rattle.std.proofs.lemmas.List.{length_push, take-append-le, get_or_push}
 use Rattle.std.proofs.lemmas.List.Elements.{All-push}
 use Rattle.std.proofs.lemmas.List.Quantifiers.{Any-push}
 use Rattle.sat_core.specs.declared.literal.Lit.{Lit}
 use Rattle.sat_core.specs.declared.literal.ClauseId.{ClauseId}
 use Rattle.sat_core.specs.Clauses.{negated, IsClause}
 use Rattle.sat_core.specs.Derivation.{adds, drops}
-use Rattle.sat_core.specs.Hints.{NumberedClause, hints_fault}
+use Rattle.sat_core.specs.Hints.{NumberedClause, clause_of, hints_fault}
 use Rattle.sat_core.specs.Fresh.{IsFresh}
 use Rattle.sat_core.specs.Search.{Event, gives, derives, Search, search_of, after_event, after_events, next_number, IsLearned, log_of, units_of, adds_in}
 use Rattle.sat_core.proofs.SearchLaws.{after_events-append, units_given, units_of-append, adds_given, log_of-append, adds_in-append}
@@ -19,8 +19,9 @@ use Rattle.conflict_learn.proofs.FreshLaws.{IsFresh-learned}
 use Rattle.solver_face.specs.Solving.{Solving, IsSound, search_now, taken}
 use Rattle.watch_store.specs.Fits.{StoreParts, FitsTrail, AreShortTrue}
 use Rattle.watch_store.proofs.FitLaws.{closed_below}
-use Rattle.watch_solver.specs.Running.{first_clauses, AreLiveOf, ClashTells}
-use Rattle.watch_solver.proofs.LiveLemmas.{filled_push, units_push, fresh_empty}
+use Rattle.sat_core.proofs.LiveLaws.{clause_of-more}
+use Rattle.watch_solver.specs.Running.{first_clauses, AreLiveOf, LastUnitStands, ClashTells}
+use Rattle.watch_solver.proofs.LiveLemmas.{filled_push, units_push, rising_push, found_in, fresh_empty}
 
 -- ---- what no event changes
 vars_after_event : (s : Search) (event : Event) → (after_event s event).database.vars ≡ s.database.vars
@@ -86,8 +87,8 @@ taken_added a b id lits hints formula events =
 
 -- ---- one live clause more
 live_more : (search later : Search) (given last : ℕ) (events more : List Event) (live : List NumberedClause) (id : ClauseId) (lits : List Lit) → AreLiveOf search given last events live → later.database.live ≡ search.database.live ++ record { id = id; lits = lits } ∷ [] → later.database.last ≡ last + 1 → id.0 ≡ last + 1 → lits ≢ []
-    → All (λ lit. Any (λ c. c.lits ≡ lit ∷ []) (live ++ record { id = id; lits = lits } ∷ [])) (units_of more) → AreLiveOf later given (last + 1) more (live ++ record { id = id; lits = lits } ∷ [])
-live_more search later given last events more live id lits was grew upto number some units =
+    → All (λ lit. Any (λ c. c.lits ≡ lit ∷ []) (live ++ record { id = id; lits = lits } ∷ [])) (units_of more) → LastUnitStands (live ++ record { id = id; lits = lits } ∷ []) later.last_unit → AreLiveOf later given (last + 1) more (live ++ record { id = id; lits = lits } ∷ [])
+live_more search later given last events more live id lits was grew upto number some units unit =
     let clause : NumberedClause = record { id = id; lits = lits } in
     record {
       given_within = omega (arith, was.given_within, length_push live clause);
@@ -96,7 +97,17 @@ live_more search later given last events more live id lits was grew upto number 
       same_last = upto;
       filled = filled_push given live clause was.given_within some was.filled;
       units = units;
+      front = subst (All (λ (c : NumberedClause). c.id.0 ≤ given)) (sym (take-append-le given live (clause ∷ []) was.given_within)) was.front;
+      rising = rising_push live clause was.rising (λ k d within. omega (arith, was.numbered k d within, number));
+      last_unit = unit;
     }
+
+-- what is put behind is found under its number
+new_found : (live : List NumberedClause) (id : ClauseId) (lits : List Lit) → AllPairs (λ one later. one.id.0 < later.id.0) (live ++ record { id = id; lits = lits } ∷ []) → clause_of (live ++ record { id = id; lits = lits } ∷ []) id ≡ Some lits
+new_found live id lits rising =
+    let clause : NumberedClause = record { id = id; lits = lits } in
+    let at : get_or (live ++ clause ∷ []) (length live) clause ≡ clause = get_or_push live clause clause (length live) refl in
+    ap (λ (c : NumberedClause). clause_of (live ++ clause ∷ []) c.id) (sym at) ∙ (found_in (live ++ clause ∷ []) rising (length live) clause (omega (arith, length_push live clause)) ∙ ap (λ (c : NumberedClause). Some c.lits) at)
 
 pub live_given : (search : Search) (given last : ℕ) (events : List Event) (live : List NumberedClause) (id : ClauseId) (lit : Lit) → AreLiveOf search given last events live → id.0 ≡ last + 1 → AreLiveOf (after_event search (gives lit)) given (last + 1) (events ++ gives lit ∷ []) (live ++ record { id = id; lits = lit ∷ [] } ∷ [])
 live_given search given last events live id lit was number =
@@ -107,6 +118,7 @@ live_given search given last events live id lit was number =
     (omega (arith, was.same_last)) number (λ none. absurd (cc))
     (subst (All (λ u. Any (λ (c : NumberedClause). c.lits ≡ u ∷ []) (live ++ clause ∷ []))) (sym (units_given events lit))
     (All-push (λ u. Any (λ (c : NumberedClause). c.lits ≡ u ∷ []) (live ++ clause ∷ [])) (units_of events) lit (units_push (units_of events) live clause was.units) (Any-push (λ (c : NumberedClause). c.lits ≡ lit ∷ []) live clause refl)))
+    (inr (lit, ap (clause_of (live ++ clause ∷ [])) same ∙ new_found live id (lit ∷ []) (rising_push live clause was.rising (λ k d within. omega (arith, was.numbered k d within, number)))))
 
 pub live_added : (search : Search) (given last : ℕ) (events : List Event) (live : List NumberedClause) (id : ClauseId) (lits : List Lit) (hints : List ClauseId) → AreLiveOf search given last events live → id.0 ≡ last + 1 → lits ≢ [] → AreLiveOf (after_event search (derives (adds id lits hints))) given (last + 1) (events ++ derives (adds id lits hints) ∷ []) (live ++ record { id = id; lits = lits } ∷ [])
 live_added search given last events live id lits hints was number some =
@@ -115,6 +127,10 @@ live_added search given last events live id lits hints was number some =
     live_more search (after_event search step) given last events (events ++ step ∷ []) live id lits was refl (omega (arith, number)) number some
     (subst (All (λ u. Any (λ (c : NumberedClause). c.lits ≡ u ∷ []) (live ++ clause ∷ []))) (sym (units_of-append events (step ∷ []) ∙ Rattle.std.proofs.lemmas.List.append-nil (units_of events)))
     (units_push (units_of events) live clause was.units))
+    (elim was.last_unit [
+      | inl none ↦ inl none
+      | inr unit ↦ inr (unit.0, clause_of-more live clause (record { 0 = search.last_unit }) (unit.0 ∷ []) unit.1)
+    ])
 
 -- ---- what is learned may come next
 pub short_above : (clash : Option ClauseId) (live : List NumberedClause) (t : TrailParts) → ClashTells clash live t → 0 < t.present → AreShortTrue live t

@@ -3,7 +3,7 @@ use Rattle.std.proofs.Common.{◌≡◌, ◌≢◌, ℕ, suc, ◌+◌, ◌-◌, 
 use Rattle.std.specs.Prelude.{All, Any, Contains, Option, Some, None, Ok, Err}
 use Rattle.std.proofs.lemmas.Bool.{cases_eq, cases_lt, cases_Bool}
 use Rattle.std.proofs.lemmas.List.{drop_all, length_push, get_or-take, get_or_default, length-take-le}
-use Rattle.std.proofs.lemmas.List.Elements.{All-nil, All-push}
+use Rattle.std.proofs.lemmas.List.Elements.{All-nil, All-push, All-take}
 use Rattle.sat_core.specs.declared.literal.Lit.{Lit}
 use Rattle.sat_core.specs.declared.literal.ClauseId.{ClauseId}
 use Rattle.sat_core.specs.Clauses.{negated, IsOver, IsClause}
@@ -29,8 +29,8 @@ use Rattle.watch_store.specs.Fits.{StoreParts, FitsTrail, AreShortTrue, HasTwoNo
 use Rattle.watch_store.proofs.FitLaws.{FitsTrail-cut, FitsTrail-decide, AreShortTrue-cut}
 use Rattle.watch_store.proofs.LiveLaws.{AreShortTrue-inserted}
 use Rattle.watch_solver.specs.declared.state.State.{State}
-use Rattle.watch_solver.specs.Running.{watch_solving, first_clauses, LogEnds, AreLiveOf, ClashTells, IsRunning, IsWatchState, IsLearnedStep, IsSeenAlike}
-use Rattle.watch_solver.proofs.LiveLemmas.{first_of_numbered, numbered_upto, length_numbered, pushed_live, first_stay}
+use Rattle.watch_solver.specs.Running.{watch_solving, first_clauses, LogEnds, DropPlaceTells, AreLiveOf, ClashTells, IsRunning, IsWatchState, IsLearnedStep, IsSeenAlike}
+use Rattle.watch_solver.proofs.LiveLemmas.{first_of_numbered, numbered_upto, rising_numbered, length_numbered, pushed_live, first_stay}
 use Rattle.watch_solver.proofs.SearchLemmas.{vars_now, formula_now, same_search, next_search, same_sound, same_taken, taken_given, taken_added, live_given, live_added, short_above, learned_next}
 use Rattle.watch_solver.proofs.SeatLemmas.{IsSeated, short_grown, conflict_grown, cut_bottom}
 
@@ -83,8 +83,9 @@ live_alike s n alike live =
     (subst (λ x. AreLiveOf (search_now (watch_solving s false)) s.given s.last x n.store.live) (sym alike.history)
     (subst (λ x. AreLiveOf (search_now (watch_solving s false)) s.given s.last s.history x) (sym alike.live) live))))
 
-pub alike_state : (s n : State) → IsWatchState s → IsSeenAlike s n → (s.refuted ≡ false → IsRunning n) → IsWatchState n
-alike_state s n state alike running = record {
+pub alike_state : (s n : State) → IsWatchState s → IsSeenAlike s n → DropPlaceTells n.drop_at → (s.refuted ≡ false → IsRunning n) → IsWatchState n
+alike_state s n state alike place running = record {
+  drop_place = place;
   sound = sound_alike s n state.sound alike.vars alike.live alike.given alike.history;
   numbers = alike.last ∙ (state.numbers ∙ sym (same_taken (watch_solving s false) (watch_solving n false) (formula_alike s n alike.live alike.given) alike.history));
   log_ends = subst (λ b. LogEnds b (log_of n.history)) (sym alike.refuted) (subst (λ es. LogEnds s.refuted (log_of es)) (sym alike.history) state.log_ends);
@@ -103,8 +104,8 @@ alike_running s n alike running fits waiting space values stamps clash = record 
 }
 
 -- ---- at first
-pub begin_state : (n : State) (clauses : List (List Lit)) → n.store.live ≡ numbered_from 1 clauses → n.given ≡ length clauses → n.last ≡ n.given → n.history ≡ [] → FitsTrail n.store n.trail → OpenOnesWait n.order n.trail → n.space ≡ n.store.vars → length n.valuation.values ≡ n.store.vars → length n.stamps.items ≡ n.store.vars → n.refuted ≡ false → ClashTells n.clash n.store.live n.trail → IsWatchState n
-begin_state n clauses live given last history fits waiting space values stamps refuted clash =
+pub begin_state : (n : State) (clauses : List (List Lit)) → n.store.live ≡ numbered_from 1 clauses → n.given ≡ length clauses → n.last ≡ n.given → n.history ≡ [] → FitsTrail n.store n.trail → OpenOnesWait n.order n.trail → n.space ≡ n.store.vars → length n.valuation.values ≡ n.store.vars → length n.stamps.items ≡ n.store.vars → n.refuted ≡ false → ClashTells n.clash n.store.live n.trail → DropPlaceTells n.drop_at → IsWatchState n
+begin_state n clauses live given last history fits waiting space values stamps refuted clash place =
     let formula : first_clauses n.given n.store.live ≡ clauses = first_of_numbered n.given n.store.live clauses live given in
     let long : length n.store.live ≡ n.given = ap length live ∙ (length_numbered 1 clauses ∙ sym given) in
     let start : search_of n.store.vars clauses ≡ search_now (watch_solving n false) = ap (search_of n.store.vars) (sym formula) ∙ ap (Rattle.sat_core.specs.Search.after_events (search_of n.store.vars (first_clauses n.given n.store.live))) (sym history) in
@@ -115,6 +116,7 @@ begin_state n clauses live given last history fits waiting space values stamps r
           let whole : taken (watch_solving n false) ≡ length (first_clauses n.given n.store.live) + 0 + 0 = ap (λ es. length (first_clauses n.given n.store.live) + length (units_of es) + Rattle.sat_core.specs.Search.adds_in (log_of es)) history in
           omega (arith, many, whole, last);
       log_ends = subst (λ b. LogEnds b (log_of n.history)) (sym refuted) (subst (λ es. LogEnds false (log_of es)) (sym history) (All-nil (λ (step : DerivedStep). ¬ AddsEmptyClause (Some step))));
+      drop_place = place;
       running = λ open_yet. record {
         live = subst (λ x. AreLiveOf x n.given n.last n.history n.store.live) start (record {
           given_within = omega (arith, long);
@@ -123,6 +125,9 @@ begin_state n clauses live given last history fits waiting space values stamps r
           same_last = sym (last ∙ given);
           filled = subst (All (λ (c : NumberedClause). c.lits ≢ [])) (sym (drop_all n.given n.store.live (omega (arith, long)))) (All-nil (λ (c : NumberedClause). c.lits ≢ []));
           units = subst (λ es. All (λ lit. Any (λ (c : NumberedClause). c.lits ≡ lit ∷ []) n.store.live) (units_of es)) (sym history) (All-nil (λ (lit : Lit). Any (λ (c : NumberedClause). c.lits ≡ lit ∷ []) n.store.live));
+          front = All-take (λ (c : NumberedClause). c.id.0 ≤ n.given) n.given n.store.live (numbered_upto n.given n.store.live clauses live given);
+          rising = rising_numbered n.store.live clauses live;
+          last_unit = inl refl;
         });
         fits = fits;
         waiting = waiting;
@@ -172,10 +177,10 @@ clash_given None new id lits false live more t t1 later grown is inserted laws c
     (AreShortTrue-inserted id lits live more later (seated refl) inserted (short_grown live t1 later grown grew (AreShortTrue-cut live t t1 0 cut tells)))
 
 pub given_state : (s n : State) (lit : Lit) (id : ClauseId) (t1 : TrailParts) (clash : Bool) → IsWatchState s → s.refuted ≡ false → IsOver s.store.vars lit → id.0 ≡ s.last + 1
-    → n.store.vars ≡ s.store.vars → IsInserted id (lit ∷ []) s.store.live n.store.live → n.given ≡ s.given → n.last ≡ s.last + 1 → n.history ≡ s.history ++ gives lit ∷ [] → n.refuted ≡ s.refuted
+    → n.store.vars ≡ s.store.vars → IsInserted id (lit ∷ []) s.store.live n.store.live → n.given ≡ s.given → n.last ≡ s.last + 1 → n.history ≡ s.history ++ gives lit ∷ [] → n.refuted ≡ s.refuted → n.drop_at ≡ s.drop_at
     → n.space ≡ s.space → length n.valuation.values ≡ length s.valuation.values → length n.stamps.items ≡ length s.stamps.items → FitsTrail n.store n.trail → OpenOnesWait n.order t1 → IsCut 0 s.trail.entries t1.entries → t1.present ≡ 0 → Grows t1 n.trail
     → (clash ≡ true → IsConflict n.store.live n.trail id) → (clash ≡ false → 1 < 2 → IsSeated n.trail.entries (lit ∷ [])) → (s.clash ≢ None → n.clash ≡ s.clash) → (s.clash ≡ None → clash ≡ false → n.clash ≡ None) → (s.clash ≡ None → clash ≡ true → n.clash ≡ Some id) → IsWatchState n
-given_state s n lit id t1 clash state open_yet over number vars inserted given last history refuted space values stamps fits waiting cut bottom grows conflict seated stays none some =
+given_state s n lit id t1 clash state open_yet over number vars inserted given last history refuted place space values stamps fits waiting cut bottom grows conflict seated stays none some =
     let run : IsRunning s = state.running open_yet in
     let old : Solving = watch_solving s false in
     let new : Solving = watch_solving n false in
@@ -186,6 +191,7 @@ given_state s n lit id t1 clash state open_yet over number vars inserted given l
       sound = sound_more old new (gives lit) state.sound (subst (λ v. IsOver v lit) (sym (vars_now old)) over) vars formula history;
       numbers = last ∙ (ap (λ k. k + 1) state.numbers ∙ sym (taken_given old new lit formula history));
       log_ends = subst (λ b. LogEnds b (log_of n.history)) (sym refuted) (subst (LogEnds s.refuted) (sym (log_stays s.history n.history lit history)) state.log_ends);
+      drop_place = subst DropPlaceTells (sym place) state.drop_place;
       running = λ still. record {
         live =
             subst (λ x. AreLiveOf x n.given n.last n.history n.store.live) (sym search)
@@ -204,8 +210,8 @@ given_state s n lit id t1 clash state open_yet over number vars inserted given l
     }
 
 -- a unit after the formula was refuted
-pub given_refuted : (s n : State) (lit : Lit) → IsWatchState s → s.refuted ≡ true → IsOver s.store.vars lit → n.store ≡ s.store → n.given ≡ s.given → n.last ≡ s.last + 1 → n.history ≡ s.history ++ gives lit ∷ [] → n.refuted ≡ s.refuted → IsWatchState n
-given_refuted s n lit state closed over store given last history refuted =
+pub given_refuted : (s n : State) (lit : Lit) → IsWatchState s → s.refuted ≡ true → IsOver s.store.vars lit → n.store ≡ s.store → n.given ≡ s.given → n.last ≡ s.last + 1 → n.history ≡ s.history ++ gives lit ∷ [] → n.refuted ≡ s.refuted → n.drop_at ≡ s.drop_at → IsWatchState n
+given_refuted s n lit state closed over store given last history refuted place =
     let old : Solving = watch_solving s false in
     let new : Solving = watch_solving n false in
     let vars : n.store.vars ≡ s.store.vars = ap (λ x. x.vars) store in
@@ -214,6 +220,7 @@ given_refuted s n lit state closed over store given last history refuted =
       sound = sound_more old new (gives lit) state.sound (subst (λ v. IsOver v lit) (sym (vars_now old)) over) vars formula history;
       numbers = last ∙ (ap (λ k. k + 1) state.numbers ∙ sym (taken_given old new lit formula history));
       log_ends = subst (λ b. LogEnds b (log_of n.history)) (sym refuted) (subst (LogEnds s.refuted) (sym (log_stays s.history n.history lit history)) state.log_ends);
+      drop_place = subst DropPlaceTells (sym place) state.drop_place;
       running = λ still. absurd (Rattle.sat_core.proofs.OpenLaws.true_is_not_false (sym closed ∙ (sym refuted ∙ still)));
     }
 
@@ -313,8 +320,8 @@ step_of s n id lits hints level run number learned vars formula history = record
 }
 
 -- the empty clause
-pub refuted_state : (s n : State) (id : ClauseId) (lits : List Lit) (hints : List ClauseId) (level : ℕ) → IsWatchState s → s.refuted ≡ false → id.0 ≡ s.last + 1 → lits ≡ [] → IsLearnedFrom s.store.live s.trail lits hints level → n.store ≡ s.store → n.given ≡ s.given → n.last ≡ s.last + 1 → n.history ≡ s.history ++ derives (adds id lits hints) ∷ [] → n.refuted ≡ true → IsWatchState n × IsLearnedStep s n
-refuted_state s n id lits hints level state open_yet number none learned store given last history refuted =
+pub refuted_state : (s n : State) (id : ClauseId) (lits : List Lit) (hints : List ClauseId) (level : ℕ) → IsWatchState s → s.refuted ≡ false → id.0 ≡ s.last + 1 → lits ≡ [] → IsLearnedFrom s.store.live s.trail lits hints level → n.store ≡ s.store → n.given ≡ s.given → n.last ≡ s.last + 1 → n.history ≡ s.history ++ derives (adds id lits hints) ∷ [] → n.refuted ≡ true → n.drop_at ≡ s.drop_at → IsWatchState n × IsLearnedStep s n
+refuted_state s n id lits hints level state open_yet number none learned store given last history refuted place =
     let run : IsRunning s = state.running open_yet in
     let old : Solving = watch_solving s false in
     let new : Solving = watch_solving n false in
@@ -324,6 +331,7 @@ refuted_state s n id lits hints level state open_yet number none learned store g
         sound = sound_more old new (derives (adds id lits hints)) state.sound (next_learned s id lits hints level run number learned) vars formula history;
         numbers = last ∙ (ap (λ k. k + 1) state.numbers ∙ sym (taken_added old new id lits hints formula history));
         log_ends = subst (λ b. LogEnds b (log_of n.history)) (sym refuted) (subst EndsInEmptyClause (sym (log_more s.history n.history id lits hints history)) (ends_empty (log_of s.history) id lits hints none));
+        drop_place = subst DropPlaceTells (sym place) state.drop_place;
         running = λ still. absurd (Rattle.sat_core.proofs.OpenLaws.true_is_not_false (sym refuted ∙ still));
       },
       step_of s n id lits hints level run number learned vars formula history,
@@ -362,9 +370,9 @@ learned_above live t lits hints level learned some = elim (cases_eq t.present 0)
 ]
 
 pub learned_state : (s n : State) (t1 : TrailParts) (id : ClauseId) (lits : List Lit) (hints : List ClauseId) (level : ℕ) (lit : Lit) → IsWatchState s → s.refuted ≡ false → id.0 ≡ s.last + 1 → lits ≢ [] → get_or lits 0 lit ≡ lit → IsLearnedFrom s.store.live s.trail lits hints level
-    → n.store.vars ≡ s.store.vars → IsInserted id lits s.store.live n.store.live → n.given ≡ s.given → n.last ≡ s.last + 1 → n.history ≡ s.history ++ derives (adds id lits hints) ∷ [] → n.refuted ≡ s.refuted → n.clash ≡ s.clash
+    → n.store.vars ≡ s.store.vars → IsInserted id lits s.store.live n.store.live → n.given ≡ s.given → n.last ≡ s.last + 1 → n.history ≡ s.history ++ derives (adds id lits hints) ∷ [] → n.refuted ≡ s.refuted → n.clash ≡ s.clash → n.drop_at ≡ s.drop_at
     → n.space ≡ s.space → length n.valuation.values ≡ length s.valuation.values → length n.stamps.items ≡ length s.stamps.items → FitsTrail n.store n.trail → OpenOnesWait n.order t1 → IsCut level s.trail.entries t1.entries → t1.present ≡ level → n.trail ≡ assigned t1 lit id → IsWatchState n × IsLearnedStep s n
-learned_state s n t1 id lits hints level lit state open_yet number some first learned vars inserted given last history refuted same_clash space values stamps fits waiting cut present assigned_is =
+learned_state s n t1 id lits hints level lit state open_yet number some first learned vars inserted given last history refuted same_clash place space values stamps fits waiting cut present assigned_is =
     let run : IsRunning s = state.running open_yet in
     let old : Solving = watch_solving s false in
     let new : Solving = watch_solving n false in
@@ -379,6 +387,7 @@ learned_state s n t1 id lits hints level lit state open_yet number some first le
         sound = sound_more old new step state.sound next vars formula history;
         numbers = last ∙ (ap (λ k. k + 1) state.numbers ∙ sym (taken_added old new id lits hints formula history));
         log_ends = subst (λ b. LogEnds b (log_of n.history)) (sym (refuted ∙ open_yet)) (subst AddNoEmptyClause (sym (log_more s.history n.history id lits hints history)) (adds_some (log_of s.history) id lits hints some none));
+        drop_place = subst DropPlaceTells (sym place) state.drop_place;
         running = λ still. record {
           live =
               subst (λ x. AreLiveOf x n.given n.last n.history n.store.live) (sym search)

@@ -1,10 +1,10 @@
 -- What the watch solver's state means as a search, and what holds of it.
-use Rattle.std.specs.Prelude.{◌≡◌, ◌≢◌, ℕ, ◌+◌, ◌-◌, ◌*◌, ◌<◌, ◌≤◌, Bool, true, false, cond, List, [], ◌∷◌, ◌++◌, length, map, take, drop, All, Any, Option, Some, None}
+use Rattle.std.specs.Prelude.{◌≡◌, ◌≢◌, ◌⊎◌, ℕ, ◌+◌, ◌-◌, ◌*◌, ◌<◌, ◌≤◌, Bool, true, false, cond, List, [], ◌∷◌, ◌++◌, length, map, take, drop, All, AllPairs, Any, Option, Some, None}
 use Rattle.sat_core.specs.declared.literal.Lit.{Lit}
 use Rattle.sat_core.specs.declared.literal.ClauseId.{ClauseId}
 use Rattle.sat_core.specs.Derivation.{DerivedStep, adds, EndsInEmptyClause}
-use Rattle.sat_core.specs.Hints.{NumberedClause}
-use Rattle.sat_core.specs.Search.{Event, derives, Search, IsLearned, log_of, units_of}
+use Rattle.sat_core.specs.Hints.{NumberedClause, clause_of}
+use Rattle.sat_core.specs.Search.{Event, derives, Search, IsLearned, IsDropPlace, log_of, units_of}
 use Rattle.search_trail.specs.Trails.{TrailParts, IsTrail}
 use Rattle.conflict_learn.specs.Learning.{IsConflict}
 use Rattle.solver_face.specs.Solving.{Solving, IsSound, AddNoEmptyClause, search_now, taken}
@@ -25,7 +25,15 @@ abbrev pub LogEnds : Bool → List DerivedStep → Type 0
 LogEnds true steps = EndsInEmptyClause steps
 LogEnds false steps = AddNoEmptyClause steps
 
--- the live clauses beside the search that its events make: the formula's first, all numbered up to the last number; the others
+-- the unit with that number is live; 0 where none was given
+abbrev pub LastUnitStands : List NumberedClause → ℕ → Type 0
+LastUnitStands live last_unit = (last_unit ≡ 0) ⊎ ((lit : Lit) × (clause_of live (record { 0 = last_unit }) ≡ Some (lit ∷ [])))
+
+-- clauses are dropped at that number of conflicts; never again where it is 0
+abbrev pub DropPlaceTells : ℕ → Type 0
+DropPlaceTells place = (place ≡ 0) ⊎ IsDropPlace place
+
+-- the live clauses beside the search that its events make: the formula's first, by rising numbers up to the last one; the others
 -- aren't empty, and each given unit is live
 pub record AreLiveOf (search : Search) (given last : ℕ) (events : List Event) (live : List NumberedClause) : Type 0 where
   pub given_within : given ≤ length live
@@ -34,6 +42,9 @@ pub record AreLiveOf (search : Search) (given last : ℕ) (events : List Event) 
   pub same_last : search.database.last ≡ last
   pub filled : All (λ clause. clause.lits ≢ []) (drop given live)
   pub units : All (λ lit. Any (λ clause. clause.lits ≡ lit ∷ []) live) (units_of events)
+  pub front : All (λ clause. clause.id.0 ≤ given) (take given live)
+  pub rising : AllPairs (λ one later. one.id.0 < later.id.0) live
+  pub last_unit : LastUnitStands live search.last_unit
 
 -- a clause that was false at level 0 as soon as it came; or else there are none such, and the short ones are true
 abbrev pub ClashTells : Option ClauseId → List NumberedClause → TrailParts → Type 0
@@ -55,6 +66,7 @@ pub record IsWatchState (s : State) : Type 0 where
   pub sound : IsSound (watch_solving s false)
   pub numbers : s.last ≡ taken (watch_solving s false)
   pub log_ends : LogEnds s.refuted (log_of s.history)
+  pub drop_place : DropPlaceTells s.drop_at
   pub running : s.refuted ≡ false → IsRunning s
 
 -- what a conflict leaves: one learned step more

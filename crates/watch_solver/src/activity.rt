@@ -7,12 +7,14 @@ use conflict_learn::Clauses;
 use sat_core::{ClauseId, Lit};
 use watch_store::WatchStore;
 
-/// Bumps each variable of the clauses that led to the conflict, and lets all earlier bumps count less. `number` is the
+/// Bumps each variable of the clauses that led to the conflict, and lets all earlier bumps count less; notes in `met` that
+/// these clauses were met. `number` is the
 /// number of the clause that was learned, which no earlier stamp has. Linear in their literals, and each bump takes a time
 /// logarithmic in the variables.
 pub(crate) fn bump_met(
     order: &mut ActivityOrder,
     stamps: &mut [u32],
+    met: &mut [u32],
     store: &WatchStore,
     hints: &[ClauseId],
     number: u32,
@@ -24,6 +26,10 @@ pub(crate) fn bump_met(
     ensures waits { order.new.waits ≡ order.old.waits }
 {
     'hints: for hint in hints {
+        let at = hint.0 as usize;
+        if at < met.len() {
+            met[at] = number;
+        }
         match store.lits(*hint) {
             Some(lits) => bump_all(order, stamps, lits, number),
             None => {}

@@ -30,6 +30,7 @@ pub(crate) fn begin(formula: Formula) -> Result<State, AllocError>
     let order = ActivityOrder::new(alloc, vars)?;
     let stamps = vec![in alloc; 0u32; vars as usize]?;
     let values = vec![in alloc; false; vars as usize]?;
+    let met = vec![in alloc; 0u32; given as usize + 1]?;
     let store = WatchStore::new(formula)?;
     let clash = seat_all(&store, &mut trail, given);
     Ok(State {
@@ -42,7 +43,9 @@ pub(crate) fn begin(formula: Formula) -> Result<State, AllocError>
         space,
         order,
         stamps,
+        met,
         pace: Pace::new(),
+        drop_at: 2000,
         valuation: Valuation {
             values: Items::from_vec(values),
         },

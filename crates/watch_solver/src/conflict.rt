@@ -74,9 +74,11 @@ fn keep(
     ensures err { OnErr result (watch_solving state.new false ≡ watch_solving state.old false) }
 {
     let id = ClauseId(state.last + 1);
+    state.met.push(id.0)?;
     bump_met(
         &mut state.order,
         state.stamps.as_mut_slice(),
+        state.met.as_mut_slice(),
         &state.store,
         hints.as_slice(),
         state.last + 1,

@@ -4,6 +4,8 @@
 mod activity;
 mod begin;
 mod conflict;
+mod drop_choice;
+mod dropping;
 mod luby;
 mod pace;
 mod search;

@@ -8,6 +8,7 @@ ghost use Rattle.solver_face.specs.Solving.{Searched, IsAnswer, EndsInAdd};
 ghost use Rattle.watch_solver.specs.Running.{IsWatchState, IsSeenAlike, watch_solving, still_to_do};
 
 use crate::conflict::conflict;
+use crate::dropping::drop_learned;
 use crate::state::State;
 use activity_order::{decide_next, go_back};
 use sat_core::ClauseId;
@@ -98,7 +99,13 @@ fn meet(state: &mut State, budget: &mut Budget, id: ClauseId) -> Result<Option<A
 {
     conflict(state, id)?;
     budget.spend();
-    Ok(ended(state, budget))
+    match ended(state, budget) {
+        Some(answer) => Ok(Some(answer)),
+        None => {
+            drop_learned(state)?;
+            Ok(None)
+        }
+    }
 }
 
 /// Whether the search ends behind a conflict; else it restarts where a restart is due.

@@ -24,7 +24,11 @@ pub(crate) struct State {
     pub(crate) order: ActivityOrder,
     // by variable: the number of the clause in whose learning it was met last
     pub(crate) stamps: Vec<u32>,
+    // by number of a clause: the number of the one in whose learning it was met last
+    pub(crate) met: Vec<u32>,
     pub(crate) pace: Pace,
+    // the number of conflicts at which clauses are dropped next, or 0
+    pub(crate) drop_at: u32,
     pub(crate) valuation: Valuation,
     pub(crate) found: bool,
     pub(crate) refuted: bool,

@@ -48,6 +48,7 @@ fn give_live(state: &mut State, lit: Lit) -> Result<(), AllocError>
 {
     let id = ClauseId(state.last + 1);
     let lits = [lit];
+    state.met.push(0)?;
     go_back(&mut state.order, &mut state.trail, 0);
     state.store.add(id, lits.as_slice(), &state.trail)?;
     state.history.give(lit)?;

@@ -66,11 +66,11 @@ pair_at watches a b d n long =
     let more : length (watches ++ a ∷ []) ≡ length watches + 1 = length_push watches a in
     (get_or_append_left (watches ++ a ∷ []) (b ∷ []) d n (omega (arith, more, long)) ∙ get_or_push watches a d n long, get_or_push (watches ++ a ∷ []) b d (n + 1) (omega (arith, more, long)))
 
-pair_before : (watches : List Lit) (a b d : Lit) (k : ℕ) → k < length watches → get_or ((watches ++ a ∷ []) ++ b ∷ []) k d ≡ get_or watches k d
+pub pair_before : (watches : List Lit) (a b d : Lit) (k : ℕ) → k < length watches → get_or ((watches ++ a ∷ []) ++ b ∷ []) k d ≡ get_or watches k d
 pair_before watches a b d k within = get_or_append_left (watches ++ a ∷ []) (b ∷ []) d k (omega (arith, within, length_push watches a)) ∙ get_or_append_left watches (a ∷ []) d k within
 
 -- one of the two new nodes, or an old one
-node_cases : (count node : ℕ) → node < 2 * count + 2 → (node < 2 * count) ⊎ ((node ≡ 2 * count) ⊎ (node ≡ 2 * count + 1))
+pub node_cases : (count node : ℕ) → node < 2 * count + 2 → (node < 2 * count) ⊎ ((node ≡ 2 * count) ⊎ (node ≡ 2 * count + 1))
 node_cases count node within = elim (cases_lt node (2 * count)) [
   | inl old ↦ inl old
   | inr new ↦ inr (elim (cases_eq node (2 * count)) [ inl first ↦ inl first | inr second ↦ inr (omega (arith, within, new, second)) ])

@@ -2,6 +2,7 @@
 pub mod AddLemmas
 pub mod ChainLemmas
 pub mod ChooseLemmas
+pub mod CompactLemmas
 pub mod CountLemmas
 pub mod EndLemmas
 pub mod FillLemmas

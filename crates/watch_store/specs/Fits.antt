@@ -100,3 +100,11 @@ pub record IsEnded (vars node : ℕ) (old new : List Lit) : Type 0 where
   pub named : (d : Lit) → (1 ≤ (slice_index_or new node d).var.0) × (1 ≤ (slice_index_or new (node + 1) d).var.0)
   pub differ : (d : Lit) → slice_index_or new node d ≢ slice_index_or new (node + 1) d
   pub others : (k : ℕ) (d : Lit) → k ≢ node → k ≢ node + 1 → slice_index_or new k d ≡ slice_index_or old k d
+
+-- the two literals are idle, or they are what a pair of nodes watches
+abbrev pub IsSamePair : ℕ → ℕ → List Lit → Lit → Lit → Type 0
+IsSamePair vars node old first second = (vars < first.var.0) × (vars < second.var.0) ⊎ (node + 1 < length old) × ((d : Lit) → (slice_index_or old node d ≡ first) × (slice_index_or old (node + 1) d ≡ second))
+
+-- each node is idle, or watches with its partner what a node and its partner watched
+abbrev pub ArePairsOf : ℕ → List Lit → List Lit → Type 0
+ArePairsOf vars old new = (node : ℕ) (d : Lit) → node < length new → (vars < (slice_index_or new node d).var.0) ⊎ ((m : ℕ) × (m < length old) × (slice_index_or new node d ≡ slice_index_or old m d) × (slice_index_or new (other_of node) d ≡ slice_index_or old (other_of m) d))

@@ -10,7 +10,7 @@ use Rattle.search_trail.specs.Trails.{TrailParts, IsTrail, AreFalse, known_of}
 use Rattle.search_trail.specs.Reasons.{AreReasons}
 use Rattle.watch_store.specs.declared.node.Node.{Node}
 use Rattle.watch_store.specs.declared.found.Visit.{Visit}
-use Rattle.watch_store.specs.declared.found.Visit.TheVariants.{Kept, Moved, Forced, Conflict}
+use Rattle.watch_store.specs.declared.found.Visit.TheVariants.{Moved, Forced, Conflict}
 use Rattle.watch_store.specs.declared.walk.Left.{Left}
 use Rattle.watch_store.specs.declared.walk.Left.TheVariants.{Here, Gone, Conflict as Stopped}
 use Rattle.watch_store.specs.Places.{PlacedClauses, ArePlaced, live_in, clause_at}
@@ -21,9 +21,8 @@ use Rattle.watch_store.specs.Watching.{other_of, watches_of, nexts_of, homes_of,
 abbrev pub OthersFalse : List Lit → List Lit → Lit → Type 0
 OthersFalse known lits lit = All (λ one. one ≢ lit → is_known known (negated one) ≡ true) lits
 
--- by the clause's literals and its other watched literal
+-- by the clause's literals and its other watched literal, which isn't true
 abbrev pub VisitTells : List Lit → List Lit → Lit → Visit → Type 0
-VisitTells known lits partner Kept = is_known known partner ≡ true
 VisitTells known lits partner (Moved lit) = Contains lits lit × (lit ≢ partner) × (is_known known (negated lit) ≡ false)
 VisitTells known lits partner Forced = IsOpen known partner × OthersFalse known lits partner
 VisitTells known lits partner Conflict = (is_known known (negated partner) ≡ true) × OthersFalse known lits partner

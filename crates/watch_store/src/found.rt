@@ -6,13 +6,11 @@ ghost use Rattle.search_trail.specs.Trails.{known_of};
 ghost use Rattle.watch_store.specs.Walking.{OthersFalse, VisitTells};
 
 use sat_core::Lit;
-use search_trail::{Trail, Truth};
+use search_trail::Trail;
 
 /// What is to be done with a node whose watched literal became false.
 #[derive(Clone, Copy, Debug)]
 pub enum Visit {
-    /// The other watched literal is true.
-    Kept,
     /// This literal isn't false and is to be watched in its place.
     Moved(Lit),
     /// The other watched literal is the only one that isn't false.
@@ -25,18 +23,18 @@ pub enum Visit {
 pub(crate) fn read_clause(trail: &Trail, lits: &[Lit], partner: Lit) -> Visit
     requires in_range { All (IsOver trail.now.vars) lits.now }
     requires partner { IsOver trail.now.vars partner }
+    requires not_true { is_known (known_of trail.now.entries) partner ≡ false }
     ensures { VisitTells (known_of trail.now.entries) lits.now partner result }
 {
-    match trail.value(partner) {
-        Truth::Yes => Visit::Kept,
-        Truth::Open => match replacement(trail, lits, partner) {
-            Some(lit) => Visit::Moved(lit),
-            None => Visit::Forced,
-        },
-        Truth::No => match replacement(trail, lits, partner) {
-            Some(lit) => Visit::Moved(lit),
-            None => Visit::Conflict,
-        },
+    match replacement(trail, lits, partner) {
+        Some(lit) => Visit::Moved(lit),
+        None => {
+            if trail.is_true(partner.negated()) {
+                Visit::Conflict
+            } else {
+                Visit::Forced
+            }
+        }
     }
 }
 

@@ -3,6 +3,7 @@
 
 mod adding;
 mod choosing;
+mod compacting;
 mod ending;
 mod filling;
 mod finding;

@@ -13,6 +13,7 @@ ghost use Rattle.watch_store.specs.Fits.{FitsTrail, AreShortTrue, IsSameStore, H
 
 use crate::adding::put;
 use crate::choosing::pair_for;
+use crate::compacting::refill;
 use crate::ending::end;
 use crate::filling::fill;
 use crate::node::Node;
@@ -117,6 +118,30 @@ impl WatchStore {
             ),
             None => unreachable!(),
         }
+    }
+
+    /// Only live clauses keep their room, each with the watches that it has. Linear in their literals, in the numbers up to
+    /// the greatest and in the variables. After want of memory the store is as it was.
+    pub fn compact(&mut self) -> Result<(), AllocError>
+        ensures same { IsSameStore self.old self.new }
+        ensures fits { (t : TrailParts) → FitsTrail self.old t → FitsTrail self.new t }
+        ensures err { OnErr result (self.new ≡ self.old) }
+    {
+        let alloc = *self.nodes.allocator();
+        let mut table = ClauseTable::new(alloc, self.table.vars());
+        let mut heads = vec![in alloc; u32::MAX; 2 * self.table.vars() as usize + 2]?;
+        let mut nodes = Vec::new(alloc);
+        refill(
+            &self.table,
+            self.nodes.as_slice(),
+            &mut table,
+            heads.as_mut_slice(),
+            &mut nodes,
+        )?;
+        self.table = table;
+        self.heads = heads;
+        self.nodes = nodes;
+        Ok(())
     }
 
     /// Makes true what the clauses of two or more literals force, at the present level, and marks as read what it has

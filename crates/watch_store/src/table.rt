@@ -58,6 +58,13 @@ impl ClauseTable {
         self.numbers.len()
     }
 
+    /// How many numbers there are places for.
+    pub(crate) fn numbers(&self) -> usize
+        ensures { result ≡ length self.now.places }
+    {
+        self.places.len()
+    }
+
     /// The clause at a place.
     pub(crate) fn clause(&self, place: usize) -> &[Lit]
         requires { place < length self.now.clauses }

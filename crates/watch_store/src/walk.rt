@@ -82,9 +82,12 @@ pub(crate) fn step(
     ensures tells { (kept rest : List ℕ) → IsMidWalk table.now heads.old nodes.old trail.old home kept (node ∷ rest) before node → StepTells table.now heads.new nodes.new trail.new home kept node rest before (slice_index (nexts_of nodes.old) node) result }
 {
     let partner = nodes[other(node as usize)].watch;
+    // half of the visits end here, before the clause is read
+    if trail.is_true(partner) {
+        return Left::Here;
+    }
     let place = node as usize / 2;
     match read_clause(trail, table.clause(place), partner) {
-        Visit::Kept => Left::Here,
         Visit::Moved(lit) => {
             relink(heads, nodes, home, before, node, lit);
             Left::Gone

@@ -35,12 +35,12 @@ assign-requires-clause-is_open c =
     (first_unit c.args.state.now.trail c.go_back.new.trail c.args.lits c.args.hints c.args.state.now.store.live c.args.level (get_or c.args.lits 0 (record { var = record { 0 = 0 }; positive = false })) (c.requires.state.running c.requires.open).fits.laws c.requires.learned c.requires.some (get_or_default c.args.lits 0 (get_or c.args.lits 0 (record { var = record { 0 = 0 }; positive = false })) (record { var = record { 0 = 0 }; positive = false }) (some_long c.args.lits c.requires.some)) c.go_back.ensures.cut).open_lit
 
 pub returns-in_err-add-2-clause-err : goal.returns-in_err-add-2-clause-err
-returns-in_err-add-2-clause-err c = on_err c.from_residual-in_err-add-2.result _ (solving_same c.args.state.now (record { alloc = c.args.state.now.alloc; store = c.add.new.self; given = c.args.state.now.given; last = c.args.state.now.last; history = c.add-2.new.self; trail = c.assign.new.self; space = c.args.state.now.space; order = c.go_back.new.order; stamps = c.args.state.now.stamps; pace = c.args.state.now.pace; valuation = c.args.state.now.valuation; found = c.args.state.now.found; refuted = c.args.state.now.refuted; clash = c.args.state.now.clash }) c.add.ensures.vars (formula_grown c.args.state.now (record { alloc = c.args.state.now.alloc; store = c.add.new.self; given = c.args.state.now.given; last = c.args.state.now.last; history = c.add-2.new.self; trail = c.assign.new.self; space = c.args.state.now.space; order = c.go_back.new.order; stamps = c.args.state.now.stamps; pace = c.args.state.now.pace; valuation = c.args.state.now.valuation; found = c.args.state.now.found; refuted = c.args.state.now.refuted; clash = c.args.state.now.clash }) _ _ (c.requires.state.running c.requires.open) refl c.in_ok-add.ensures.live refl) c.in_err-add-2.ensures.err refl refl)
+returns-in_err-add-2-clause-err c = on_err c.from_residual-in_err-add-2.result _ (solving_same c.args.state.now (record { alloc = c.args.state.now.alloc; store = c.add.new.self; given = c.args.state.now.given; last = c.args.state.now.last; history = c.add-2.new.self; trail = c.assign.new.self; space = c.args.state.now.space; order = c.go_back.new.order; stamps = c.args.state.now.stamps; met = c.args.state.now.met; pace = c.args.state.now.pace; drop_at = c.args.state.now.drop_at; valuation = c.args.state.now.valuation; found = c.args.state.now.found; refuted = c.args.state.now.refuted; clash = c.args.state.now.clash }) c.add.ensures.vars (formula_grown c.args.state.now (record { alloc = c.args.state.now.alloc; store = c.add.new.self; given = c.args.state.now.given; last = c.args.state.now.last; history = c.add-2.new.self; trail = c.assign.new.self; space = c.args.state.now.space; order = c.go_back.new.order; stamps = c.args.state.now.stamps; met = c.args.state.now.met; pace = c.args.state.now.pace; drop_at = c.args.state.now.drop_at; valuation = c.args.state.now.valuation; found = c.args.state.now.found; refuted = c.args.state.now.refuted; clash = c.args.state.now.clash }) _ _ (c.requires.state.running c.requires.open) refl c.in_ok-add.ensures.live refl) c.in_err-add-2.ensures.err refl refl)
 
 pub returns-clause-state : goal.returns-clause-state
 returns-clause-state c = (learned_state c.args.state.now _ c.go_back.new.trail (record { 0 = c.args.state.now.last + 1 }) c.args.lits c.args.hints c.args.level (get_or c.args.lits 0 (record { var = record { 0 = 0 }; positive = false })) c.requires.state c.requires.open refl c.requires.some
     (get_or_default c.args.lits 0 (get_or c.args.lits 0 (record { var = record { 0 = 0 }; positive = false })) (record { var = record { 0 = 0 }; positive = false }) (some_long c.args.lits c.requires.some)) c.requires.learned c.add.ensures.vars
-    (subst (λ ls. IsInserted (record { 0 = c.args.state.now.last + 1 }) ls c.args.state.now.store.live c.add.new.self.live) c.as_slice-2.ensures c.in_ok-add.ensures.live) refl refl c.in_ok-add-2.ensures.ok refl refl refl refl
+    (subst (λ ls. IsInserted (record { 0 = c.args.state.now.last + 1 }) ls c.args.state.now.store.live c.add.new.self.live) c.as_slice-2.ensures c.in_ok-add.ensures.live) refl refl c.in_ok-add-2.ensures.ok refl refl refl refl refl
     (lent_long c.args.state.now.stamps.len c.bump_met.new.stamps c.args.state.now.stamps.items (omega (arith, c.bump_met.ensures.stamps, ap length c.as_mut_slice.ensures.value)) ∙ (c.bump_met.ensures.stamps ∙ ap length c.as_mut_slice.ensures.value))
     (subst (FitsTrail c.add.new.self) (sym c.assign.ensures.one_more) (subst (λ ls. FitsTrail c.add.new.self (assigned c.go_back.new.trail (get_or ls 0 (record { var = record { 0 = 0 }; positive = false })) (record { 0 = c.args.state.now.last + 1 }))) (sym c.as_slice-3.ensures) (c.in_ok-add.ensures.forced (get_or c.args.lits 0 (record { var = record { 0 = 0 }; positive = false })) (subst (λ ls. IsUnitUnder (known_of c.go_back.new.trail.entries) ls (get_or c.args.lits 0 (record { var = record { 0 = 0 }; positive = false }))) (sym c.as_slice-2.ensures) (first_unit c.args.state.now.trail c.go_back.new.trail c.args.lits c.args.hints c.args.state.now.store.live c.args.level (get_or c.args.lits 0 (record { var = record { 0 = 0 }; positive = false })) (c.requires.state.running c.requires.open).fits.laws c.requires.learned c.requires.some (get_or_default c.args.lits 0 (get_or c.args.lits 0 (record { var = record { 0 = 0 }; positive = false })) (record { var = record { 0 = 0 }; positive = false }) (some_long c.args.lits c.requires.some)) c.go_back.ensures.cut)))))
     c.go_back.ensures.waiting c.go_back.ensures.cut c.go_back.ensures.now
@@ -49,7 +49,7 @@ returns-clause-state c = (learned_state c.args.state.now _ c.go_back.new.trail (
 pub returns-clause-met : goal.returns-clause-met
 returns-clause-met c = (learned_state c.args.state.now _ c.go_back.new.trail (record { 0 = c.args.state.now.last + 1 }) c.args.lits c.args.hints c.args.level (get_or c.args.lits 0 (record { var = record { 0 = 0 }; positive = false })) c.requires.state c.requires.open refl c.requires.some
     (get_or_default c.args.lits 0 (get_or c.args.lits 0 (record { var = record { 0 = 0 }; positive = false })) (record { var = record { 0 = 0 }; positive = false }) (some_long c.args.lits c.requires.some)) c.requires.learned c.add.ensures.vars
-    (subst (λ ls. IsInserted (record { 0 = c.args.state.now.last + 1 }) ls c.args.state.now.store.live c.add.new.self.live) c.as_slice-2.ensures c.in_ok-add.ensures.live) refl refl c.in_ok-add-2.ensures.ok refl refl refl refl
+    (subst (λ ls. IsInserted (record { 0 = c.args.state.now.last + 1 }) ls c.args.state.now.store.live c.add.new.self.live) c.as_slice-2.ensures c.in_ok-add.ensures.live) refl refl c.in_ok-add-2.ensures.ok refl refl refl refl refl
     (lent_long c.args.state.now.stamps.len c.bump_met.new.stamps c.args.state.now.stamps.items (omega (arith, c.bump_met.ensures.stamps, ap length c.as_mut_slice.ensures.value)) ∙ (c.bump_met.ensures.stamps ∙ ap length c.as_mut_slice.ensures.value))
     (subst (FitsTrail c.add.new.self) (sym c.assign.ensures.one_more) (subst (λ ls. FitsTrail c.add.new.self (assigned c.go_back.new.trail (get_or ls 0 (record { var = record { 0 = 0 }; positive = false })) (record { 0 = c.args.state.now.last + 1 }))) (sym c.as_slice-3.ensures) (c.in_ok-add.ensures.forced (get_or c.args.lits 0 (record { var = record { 0 = 0 }; positive = false })) (subst (λ ls. IsUnitUnder (known_of c.go_back.new.trail.entries) ls (get_or c.args.lits 0 (record { var = record { 0 = 0 }; positive = false }))) (sym c.as_slice-2.ensures) (first_unit c.args.state.now.trail c.go_back.new.trail c.args.lits c.args.hints c.args.state.now.store.live c.args.level (get_or c.args.lits 0 (record { var = record { 0 = 0 }; positive = false })) (c.requires.state.running c.requires.open).fits.laws c.requires.learned c.requires.some (get_or_default c.args.lits 0 (get_or c.args.lits 0 (record { var = record { 0 = 0 }; positive = false })) (record { var = record { 0 = 0 }; positive = false }) (some_long c.args.lits c.requires.some)) c.go_back.ensures.cut)))))
     c.go_back.ensures.waiting c.go_back.ensures.cut c.go_back.ensures.now

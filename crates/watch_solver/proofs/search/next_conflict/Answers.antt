@@ -13,9 +13,9 @@ pub returns-in-None-clause-state : goal.returns-in-None-clause-state
 returns-in-None-clause-state g c =
     let run = c.requires.state.running c.requires.open in
     let grows = c.propagate.ensures.grows in
-    let alike : IsSeenAlike c.args.state.now (record { alloc = c.args.state.now.alloc; store = c.propagate.new.self; given = c.args.state.now.given; last = c.args.state.now.last; history = c.args.state.now.history; trail = c.propagate.new.trail; space = c.args.state.now.space; order = c.args.state.now.order; stamps = c.args.state.now.stamps; pace = c.args.state.now.pace; valuation = c.args.state.now.valuation; found = c.args.state.now.found; refuted = c.args.state.now.refuted; clash = c.args.state.now.clash }) = record { vars = c.propagate.ensures.same.vars; live = c.propagate.ensures.same.live; given = refl; last = refl; history = refl; refuted = refl } in
-    alike_state c.args.state.now (record { alloc = c.args.state.now.alloc; store = c.propagate.new.self; given = c.args.state.now.given; last = c.args.state.now.last; history = c.args.state.now.history; trail = c.propagate.new.trail; space = c.args.state.now.space; order = c.args.state.now.order; stamps = c.args.state.now.stamps; pace = c.args.state.now.pace; valuation = c.args.state.now.valuation; found = c.args.state.now.found; refuted = c.args.state.now.refuted; clash = c.args.state.now.clash }) c.requires.state alike
-    (λ open_yet. alike_running c.args.state.now (record { alloc = c.args.state.now.alloc; store = c.propagate.new.self; given = c.args.state.now.given; last = c.args.state.now.last; history = c.args.state.now.history; trail = c.propagate.new.trail; space = c.args.state.now.space; order = c.args.state.now.order; stamps = c.args.state.now.stamps; pace = c.args.state.now.pace; valuation = c.args.state.now.valuation; found = c.args.state.now.found; refuted = c.args.state.now.refuted; clash = c.args.state.now.clash }) alike run c.propagate.ensures.fits
+    let alike : IsSeenAlike c.args.state.now (record { alloc = c.args.state.now.alloc; store = c.propagate.new.self; given = c.args.state.now.given; last = c.args.state.now.last; history = c.args.state.now.history; trail = c.propagate.new.trail; space = c.args.state.now.space; order = c.args.state.now.order; stamps = c.args.state.now.stamps; met = c.args.state.now.met; pace = c.args.state.now.pace; drop_at = c.args.state.now.drop_at; valuation = c.args.state.now.valuation; found = c.args.state.now.found; refuted = c.args.state.now.refuted; clash = c.args.state.now.clash }) = record { vars = c.propagate.ensures.same.vars; live = c.propagate.ensures.same.live; given = refl; last = refl; history = refl; refuted = refl } in
+    alike_state c.args.state.now (record { alloc = c.args.state.now.alloc; store = c.propagate.new.self; given = c.args.state.now.given; last = c.args.state.now.last; history = c.args.state.now.history; trail = c.propagate.new.trail; space = c.args.state.now.space; order = c.args.state.now.order; stamps = c.args.state.now.stamps; met = c.args.state.now.met; pace = c.args.state.now.pace; drop_at = c.args.state.now.drop_at; valuation = c.args.state.now.valuation; found = c.args.state.now.found; refuted = c.args.state.now.refuted; clash = c.args.state.now.clash }) c.requires.state alike c.requires.state.drop_place
+    (λ open_yet. alike_running c.args.state.now (record { alloc = c.args.state.now.alloc; store = c.propagate.new.self; given = c.args.state.now.given; last = c.args.state.now.last; history = c.args.state.now.history; trail = c.propagate.new.trail; space = c.args.state.now.space; order = c.args.state.now.order; stamps = c.args.state.now.stamps; met = c.args.state.now.met; pace = c.args.state.now.pace; drop_at = c.args.state.now.drop_at; valuation = c.args.state.now.valuation; found = c.args.state.now.found; refuted = c.args.state.now.refuted; clash = c.args.state.now.clash }) alike run c.propagate.ensures.fits
     (wait_grown c.args.state.now.order c.args.state.now.trail c.propagate.new.trail grows.more grows.vars grows.entries run.waiting) refl refl refl
     (clash_grown c.args.state.now.clash c.args.state.now.store.live c.propagate.new.self.live c.args.state.now.trail c.propagate.new.trail grows.more c.in-None.is c.propagate.ensures.same.live grows.entries run.clash))
 

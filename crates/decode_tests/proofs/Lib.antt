@@ -1,0 +1,2 @@
+-- The lemmas of `decode_tests`.
+mod FoundLemmas

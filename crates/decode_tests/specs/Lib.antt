@@ -1,0 +1,2 @@
+-- What the contracts of `decode_tests` cite.
+pub mod Asked
