@@ -169,7 +169,7 @@ fn push_bundle(
     before: u32,
     size: u32,
 ) -> Result<(), AllocError> {
-    let first = parts.cells.len() as u32;
+    let first = u32::try_from(parts.cells.len()).unwrap_or(0);
     for place in 0..size {
         let cell = first.wrapping_add(place);
         parts
