@@ -245,11 +245,11 @@ def compare(calls, compiler, formula, steps, times):
         for lits, hints in words:
             file.write("%s 0 %s 0\n" % (lits, hints))
 
-    whole = "not proved %d NoEmptyClause\n" % (len(steps) + 3)
+    whole = "not proved %d NoEmptyClause\n" % (len(steps) + 4)
     checking, plain = [], []
     for _ in range(times):
         said, took = calls.check("log.txt")
-        if said.split()[:2] != ["not", "proved"] or "NoEmptyClause" not in said:
+        if said != whole:
             sys.exit("check said %r, not %r" % (said, whole))
         stopped, read = calls.check("stopped.txt")
         if stopped != "not proved 4 IdOrder\n":

@@ -1,10 +1,9 @@
 -- The heap as a whole: who is first, and what it keeps when a score grows.
-use Rattle.std.proofs.Common.{◌≡◌, ◌≢◌, ℕ, ◌+◌, ◌-◌, ◌<◌, ◌≤◌, true, false, inl, inr, List, length, get_or, set, refl, ap, sym, subst, ◌∙◌, arith}
+use Rattle.std.proofs.Common.{◌≡◌, ℕ, ◌<◌, ◌≤◌, true, false, List, length, get_or, set, ap, sym, subst, ◌∙◌, arith}
 use Rattle.std.specs.Prelude.{All}
-use Rattle.std.proofs.lemmas.Bool.{cases_lt}
 use Rattle.std.proofs.lemmas.List.{length-set, get_or_default}
 use Rattle.activity_order.specs.Scores.{rank}
-use Rattle.activity_order.specs.Heaps.{IsPlaced, IsOrdered, IsOrderedBut, IsHeap, rank_at, waits_of}
+use Rattle.activity_order.specs.Heaps.{IsOrderedBut, IsHeap, rank_at, waits_of}
 use Rattle.activity_order.proofs.SiftLemmas.{top_is_first}
 use Rattle.activity_order.proofs.RankLemmas.{bumped, bumped_outside}
 use Rattle.activity_order.proofs.PlaceLemmas.{waits_long, waits_within, place_of_waiting, waiting_of_place, not_waiting}

@@ -1,6 +1,6 @@
 -- Laws of the order beside a trail: what a trail may do without it.
-use Rattle.std.proofs.Common.{◌≡◌, ◌+◌, ◌-◌, ◌<◌, ℕ, List, [], ◌∷◌, ◌++◌, ◌||◌, length, ap, sym, subst, ◌∙◌, inl, inr, arith, true, false, get_or, refl}
-use Rattle.std.specs.Prelude.{All, replicate}
+use Rattle.std.proofs.Common.{◌≡◌, List, [], ◌∷◌, ◌++◌, ◌||◌, ap, sym, subst, ◌∙◌, inl, inr, arith, true, false, get_or, refl}
+use Rattle.std.specs.Prelude.{replicate}
 use Rattle.std.proofs.lemmas.Bool.{cases_Bool}
 use Rattle.std.proofs.lemmas.List.{get_or-replicate}
 use Rattle.sat_core.specs.declared.literal.Lit.{Lit}

@@ -1,5 +1,5 @@
 -- Who waits beside a trail: how many, who is open, and those whose literals go.
-use Rattle.std.proofs.Common.{◌≡◌, ◌≢◌, ℕ, zero, suc, ◌+◌, ◌-◌, ◌<◌, ◌≤◌, Bool, true, false, cond, ◌⊎◌, inl, inr, List, [], ◌∷◌, length, map, take, get_or, set, refl, ap, sym, subst, ◌∙◌, arith}
+use Rattle.std.proofs.Common.{◌≡◌, ℕ, ◌+◌, ◌-◌, ◌<◌, ◌≤◌, Bool, true, false, cond, inl, inr, List, length, take, get_or, set, refl, ap, sym, subst, ◌∙◌, arith}
 use Rattle.std.specs.Prelude.{All, sum_by}
 use Rattle.std.proofs.lemmas.Bool.{cases_eq, cases_lt, cases_Bool}
 use Rattle.std.proofs.lemmas.List.{get_or-set_same, get_or-set_other, length-set, length-map, get_or-map, get_or_past, get_or-take, length-take-le}
@@ -11,8 +11,7 @@ use Rattle.sat_core.specs.Fresh.{IsOpen}
 use Rattle.sat_core.proofs.OpenLaws.{place_of_known, is_known-at, true_is_not_false, one_variable}
 use Rattle.search_trail.specs.declared.entry.Entry.{Entry}
 use Rattle.search_trail.specs.Trails.{TrailParts, IsTrail, IsCut, known_of}
-use Rattle.activity_order.specs.Scores.{rank}
-use Rattle.activity_order.specs.Choices.{OrderParts, IsFirst, denial, IsOpenAt, OpenOnesWait, IsNextDecision, NoneIsOpen}
+use Rattle.activity_order.specs.Choices.{OrderParts, IsFirst, denial, OpenOnesWait, IsNextDecision, NoneIsOpen}
 
 abbrev as_number : Bool → ℕ
 as_number b = cond b 1 0

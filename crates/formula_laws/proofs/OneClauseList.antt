@@ -1,5 +1,5 @@
 -- A task has one list of clauses over its tables.
-use Rattle.std.proofs.Common.{◌≡◌, ◌∙◌, ℕ, zero, suc, ◌+◌, ◌<◌, ◌↔◌, List, [], ◌∷◌, ◌++◌, length, map, refl, sym, ap, subst, arith}
+use Rattle.std.proofs.Common.{◌≡◌, ℕ, suc, ◌<◌, List, [], ◌∷◌, length, refl, ap, subst, arith}
 use Rattle.std.specs.Prelude.{Contains}
 use Rattle.std.specs.List.{AllZip, flat_map}
 use Rattle.std.proofs.lemmas.List.{length-map}
@@ -7,21 +7,19 @@ use Rattle.sat_core.specs.declared.literal.Lit.{Lit}
 use Rattle.cell_net.specs.declared.ids.CandidateId.{CandidateId}
 use Rattle.cell_net.specs.declared.ids.CellId.{CellId}
 use Rattle.cell_net.specs.declared.parts.InstanceParts.{InstanceParts}
-use Rattle.gap_clauses.specs.Gaps.{AreCandidatesOf, AreGaps, AreGapsBetween, AreOfOneSection, walks_of}
+use Rattle.gap_clauses.specs.Gaps.{AreCandidatesOf, AreGaps, AreGapsBetween, AreOfOneSection}
 use Rattle.gap_clauses.specs.Walks.{Step}
 use Rattle.gap_clauses.specs.Laws.{AreListedOnce}
 use Rattle.sweep_table.specs.Tables.{Table}
 use Rattle.clause_list.specs.BorderClauses.{border_on_walk, borders_between, borders_from, gap_clauses, given_clauses, kept_clauses}
-use Rattle.clause_list.specs.Coding.{base_task, free_task, given_task, first_of_count, network_of, trains_of, walks_in}
-use Rattle.clause_list.specs.Numbers.{Network, above}
+use Rattle.clause_list.specs.Coding.{given_task, network_of, trains_of, walks_in}
+use Rattle.clause_list.specs.Numbers.{above}
 use Rattle.clause_list.specs.Ranges.{below, one_each}
-use Rattle.clause_list.specs.WholeList.{plan_families, base_families, counted_families, free_families, given_families, whole}
+use Rattle.clause_list.specs.WholeList.{plan_families, base_families, whole}
 use Rattle.clause_list.proofs.BorderLaws.{above_member}
 use Rattle.clause_list.proofs.ListLaws.{in_range_is}
 use Rattle.clause_list.proofs.WalkLaws.{of_one_section}
-use Rattle.clause_encoder.specs.Encoding.{task_clauses, sized_clauses}
-use Rattle.clause_encoder.specs.Plans.{GapLists, counted_task}
-use Rattle.clause_encoder.specs.declared.task.Task.{Task}
+use Rattle.clause_encoder.specs.Plans.{GapLists}
 use Rattle.clause_encoder.specs.declared.task.Task.TheVariants.{Given, Free}
 use Rattle.formula_laws.specs.Laws.{ClausesAreOne}
 use Rattle.formula_laws.proofs.SameLists.{same_lists}

@@ -12,7 +12,6 @@ use Rattle.std.proofs.lemmas.Option.{slice_get_within}
 use Rattle.sat_core.specs.declared.literal.Lit.{Lit}
 use Rattle.cell_net.specs.declared.cells.DirCell.{DirCell}
 use Rattle.cell_net.specs.declared.cells.End.TheVariants.{Low}
-use Rattle.cell_net.specs.declared.ids.SectionId.{SectionId}
 use Rattle.cell_net.specs.declared.ids.TrainId.{TrainId}
 use Rattle.cell_net.specs.declared.parts.InstanceParts.{InstanceParts}
 use Rattle.cell_net.specs.declared.trains.TrainSpec.{TrainSpec}
@@ -21,15 +20,15 @@ use Rattle.sweep_table.specs.Parts.{SweepParts, table_of}
 use Rattle.sweep_table.specs.Sweeps.{HasTooManySweeps}
 use Rattle.sweep_table.specs.Tables.{Table}
 use Rattle.clause_list.proofs.ListLaws.{is_there}
-use Rattle.clause_encoder.specs.Encoding.{HasFewOfAll, HasManyClauses, HasManyLiterals, IsFirstCrowded, IsListRefusal, task_variables, sized_clauses, sized_units}
-use Rattle.clause_encoder.specs.Plans.{GapLists, HasFewWalks}
+use Rattle.clause_encoder.specs.Encoding.{HasFewOfAll, IsFirstCrowded, IsListRefusal, task_variables, sized_clauses, sized_units}
+use Rattle.clause_encoder.specs.Plans.{GapLists}
 use Rattle.clause_encoder.specs.Writing.{literal_count}
 use Rattle.clause_encoder.specs.SweepTables.{HaveTables, IsEncodeRefusal, IsFirstManySwept, IsRefusedOver, IsSweepTable}
-use Rattle.clause_encoder.specs.declared.limits.TheConstants.{VARIABLES, CLAUSES, LITERALS}
+use Rattle.clause_encoder.specs.declared.limits.TheConstants.{LITERALS}
 use Rattle.clause_encoder.specs.declared.task.EncodeRefusal.{EncodeRefusal}
 use Rattle.clause_encoder.specs.declared.task.EncodeRefusal.TheVariants.{TooManySweeps, TooManyWalks, TooManyVariables, TooManyClauses, TooManyLiterals, Memory}
 use Rattle.clause_encoder.specs.declared.task.Task.{Task}
-use Rattle.formula_laws.specs.Laws.{HasFormula, RefusalsAreOne, RefusalsExclude}
+use Rattle.formula_laws.specs.Laws.{RefusalsAreOne, RefusalsExclude}
 use Rattle.formula_laws.proofs.OneTable.{tables_are_one}
 use Rattle.formula_laws.proofs.OneClauseList.{WalksAreOne, clauses_are_one}
 

@@ -1,22 +1,20 @@
 -- A train has one table of its sweeps.
-use Rattle.std.proofs.Common.{◌≡◌, ◌∙◌, ℕ, zero, suc, ◌+◌, ◌-◌, ◌<◌, ◌↔◌, Bool, true, false, List, [], ◌∷◌, length, map, get_or, refl, sym, ap, subst, arith, Some, ⊎_elim}
-use Rattle.std.specs.Prelude.{All, AllPairs, Contains, slice_get}
+use Rattle.std.proofs.Common.{◌≡◌, ◌∙◌, ℕ, zero, suc, ◌-◌, ◌<◌, ◌↔◌, Bool, true, false, List, [], ◌∷◌, length, map, get_or, refl, sym, ap, subst, arith, Some, ⊎_elim}
+use Rattle.std.specs.Prelude.{AllPairs, Contains, slice_get}
 use Rattle.std.proofs.Math.Path.{fun_ext}
 use Rattle.std.proofs.lemmas.Bool.{cases_lt}
 use Rattle.std.proofs.lemmas.List.{ext_get_or}
-use Rattle.std.proofs.lemmas.List.Elements.{All-contains, Contains-get_or}
-use Rattle.std.proofs.lemmas.Option.{slice_get-get_or}
+use Rattle.std.proofs.lemmas.List.Elements.{All-contains}
 use Rattle.cell_net.specs.Runs.{Continues}
 use Rattle.cell_net.specs.declared.cells.DirCell.{DirCell}
-use Rattle.cell_net.specs.declared.ids.StationId.{StationId}
 use Rattle.cell_net.specs.declared.parts.InstanceParts.{InstanceParts}
 use Rattle.cell_net.specs.declared.trains.TrainSpec.{TrainSpec}
 use Rattle.sweep_table.specs.Order.{IsSweepBefore}
 use Rattle.sweep_table.specs.Parts.{SweepParts, table_of}
-use Rattle.sweep_table.specs.Sweeps.{IsStanding, AreSweepsOf, IsTableOf}
-use Rattle.sweep_table.specs.Tables.{Table, cells_of, next_of, prev_of, is_entry, is_goal, stands_in, Rises, AreItems, IsTable}
+use Rattle.sweep_table.specs.Sweeps.{IsStanding, IsTableOf}
+use Rattle.sweep_table.specs.Tables.{Table, cells_of, next_of, prev_of, is_entry, is_goal, stands_in, Rises, IsTable}
 use Rattle.sweep_table.specs.declared.ids.SweepId.{SweepId}
-use Rattle.clause_encoder.specs.SweepTables.{HaveTables, IsSweepTable}
+use Rattle.clause_encoder.specs.SweepTables.{IsSweepTable}
 use Rattle.formula_laws.specs.Laws.{TablesAreOne}
 use Rattle.formula_laws.proofs.SameLists.{same_lists}
 use Rattle.formula_laws.proofs.SweepOrder.{not_before_back}

@@ -1,5 +1,5 @@
 -- Two lists in a strict order of the same items are one.
-use Rattle.std.proofs.Common.{◌≡◌, ◌<◌, ℕ, zero, suc, List, [], ◌∷◌, refl, sym, subst, arith}
+use Rattle.std.proofs.Common.{◌≡◌, ◌<◌, zero, suc, List, [], ◌∷◌, refl, sym, subst, arith}
 use Rattle.std.specs.Prelude.{AllPairs, Contains, ◌↔◌}
 use Rattle.vss_rows.proofs.JoinedLaws.{AllPairs-tail, AllPairs-head}
 

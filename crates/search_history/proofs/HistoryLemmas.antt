@@ -1,7 +1,7 @@
 -- One event more, and the steps among the events.
 use Rattle.std.proofs.Common.{◌≡◌, ◌+◌, List, [], ◌∷◌, ◌++◌, length, refl, ap, sym, ◌∙◌, arith}
 use Rattle.std.specs.Prelude.{ℕ, Option, Some, None}
-use Rattle.std.proofs.lemmas.List.{length_push, length-map, map_push}
+use Rattle.std.proofs.lemmas.List.{length_push, map_push}
 use Rattle.derivation_log.specs.declared.step.Step.{Step}
 use Rattle.derivation_log.specs.Steps.{derived, derived_steps}
 use Rattle.sat_core.specs.declared.literal.Lit.{Lit}

@@ -5,7 +5,6 @@ use Rattle.sat_core.specs.declared.literal.Lit.{Lit}
 use Rattle.sat_core.specs.Derivation.{DerivedStep}
 use Rattle.cell_net.specs.declared.parts.InstanceParts.{InstanceParts}
 use Rattle.derivation_log.specs.Steps.{derived_steps}
-use Rattle.derivation_log.specs.declared.step.Refutation.{Refutation}
 use Rattle.gap_clauses.specs.Gaps.{AreGaps}
 use Rattle.sweep_table.specs.Parts.{table_of}
 use Rattle.sweep_table.specs.Tables.{Table}
@@ -18,11 +17,10 @@ use Rattle.clause_encoder.specs.declared.task.Task.TheVariants.{Given, Free}
 use Rattle.formula_laws.specs.Laws.{ClausesAreOne, RefusalsAreOne, RefusalsExclude, TablesAreOne}
 use Rattle.log_checker.specs.Verdicts.{IsVerdict}
 use Rattle.log_checker.specs.declared.verdict.LogVerdict.{LogVerdict}
-use Rattle.task_driver.specs.Questions.{Question, Formulas}
+use Rattle.task_driver.specs.Questions.{Formulas}
 use Rattle.task_driver.specs.Outcomes.{vars_of, formula_of}
 use Rattle.task_driver.specs.InstanceFormulas.{formulas_of}
-use Rattle.task_driver.specs.TaskEnds.{task_of, bound_task, AreFormulasOf, IsSearchEnd, IsCheckEnd, SearchesEndAlike, ChecksAreOne}
-use Rattle.vss_report.specs.declared.outcome.Outcome.{Outcome}
+use Rattle.task_driver.specs.TaskEnds.{task_of, bound_task, AreFormulasOf, SearchesEndAlike, ChecksAreOne}
 
 same_over : (p : InstanceParts) (one other : GapLists) (tables : List Table) → ClausesAreOne p → AreGaps p one → AreGaps p other → formulas_of p one tables ≡ formulas_of p other tables
 same_over p one other tables clauses are also =

@@ -1,6 +1,6 @@
 -- What the encoder's answer for a bound says of the formulas of the instance.
-use Rattle.std.proofs.Common.{◌≡◌, ◌∙◌, ℕ, ◌+◌, ◌<◌, ◌≤◌, Bool, true, false, cond, nat_lt, List, [], ◌∷◌, ◌++◌, length, map, get_or, refl, sym, ap, subst, inl, inr, arith, Some, min}
-use Rattle.std.specs.Prelude.{All, slice_get}
+use Rattle.std.proofs.Common.{◌≡◌, ◌∙◌, ℕ, ◌+◌, ◌<◌, ◌≤◌, Bool, true, false, cond, nat_lt, List, [], ◌∷◌, ◌++◌, length, map, refl, sym, ap, subst, inl, inr, arith, min}
+use Rattle.std.specs.Prelude.{All}
 use Rattle.std.proofs.lemmas.List.{length-append}
 use Rattle.std.proofs.lemmas.Bool.Decides.{nat_tests}
 use Rattle.std.proofs.lemmas.List.Elements.{All-head, All-contains, Contains-push}
@@ -15,13 +15,8 @@ use Rattle.derivation_log.specs.declared.step.Refutation.{Refutation}
 use Rattle.derivation_log.specs.declared.step.Bound.{Bound}
 use Rattle.derivation_log.specs.declared.step.Bound.TheVariants.{Given, AtMost}
 use Rattle.sweep_table.specs.Tables.{Table}
-use Rattle.clause_list.specs.BorderClauses.{most_clauses}
-use Rattle.clause_list.specs.Coding.{first_of_count, free_task}
-use Rattle.clause_encoder.specs.Plans.{GapLists, counted_task}
+use Rattle.clause_encoder.specs.Plans.{GapLists}
 use Rattle.clause_encoder.specs.Maps.{MapParts}
-use Rattle.clause_encoder.specs.SweepTables.{IsSweepEncoding}
-use Rattle.clause_encoder.specs.declared.limits.TheConstants.{CLAUSES}
-use Rattle.clause_encoder.specs.declared.task.Task.{Task}
 use Rattle.log_checker.specs.Verdicts.{IsVerdict}
 use Rattle.log_checker.specs.declared.verdict.LogVerdict.{LogVerdict}
 use Rattle.plan_decoder.specs.Decoding.{kept_tables, KeepsTables, SatisfiesCount, SatisfiesGiven, SatisfiesTask, FreeFormulaSays}
@@ -29,7 +24,7 @@ use Rattle.task_driver.specs.Questions.{Question, of_kept, of_at_most, of_fewest
 use Rattle.task_driver.specs.Outcomes.{vars_of, formula_of}
 use Rattle.task_driver.specs.InstanceFormulas.{formulas_of}
 use Rattle.task_driver.specs.TaskEnds.{task_of, bound_task, AreFormulasOf, IsVerdictOf}
-use Rattle.task_driver.specs.Encodings.{bound_number, IsBoundEncoding, AsksOnce}
+use Rattle.task_driver.specs.Encodings.{IsBoundEncoding, AsksOnce}
 use Rattle.task_driver.proofs.TableLemmas.{tables_in, rules_in, swept_in}
 use Rattle.task_driver.proofs.Truth.{kept_layout, formula_is}
 

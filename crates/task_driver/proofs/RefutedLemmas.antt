@@ -9,7 +9,7 @@ use Rattle.sat_core.specs.declared.literal.Lit.{Lit}
 use Rattle.sat_core.specs.Clauses.{negated}
 use Rattle.sat_core.specs.Derivation.{DerivedStep, Refutes, numbered_from}
 use Rattle.sat_core.specs.Hints.{NumberedClause, clause_of, is_known, hints_fault}
-use Rattle.sat_core.specs.Search.{Event, search_of, AreNext, log_of, RefutesWithUnits}
+use Rattle.sat_core.specs.Search.{Event, log_of, RefutesWithUnits}
 use Rattle.sat_core.proofs.LiveLaws.{clause_of-numbered}
 use Rattle.border_counter.specs.Counter.{sum_to, at_least_var, at_least_lit, not_at_least_lit}
 use Rattle.cell_net.specs.declared.ids.CandidateId.{CandidateId}
@@ -21,7 +21,7 @@ use Rattle.log_rebase.specs.Rebasing.{AreDerived, AreMarksOf, RiseFrom, with_las
 use Rattle.log_rebase.specs.declared.mark.UnitMark.{UnitMark}
 use Rattle.solver_face.specs.Solving.{Solving, IsRefuted}
 use Rattle.solver_face.proofs.SolvingLaws.{search_is}
-use Rattle.task_driver.specs.BoundUnits.{AreUnitsOf, bounds_in, mark_in, order_hints}
+use Rattle.task_driver.specs.BoundUnits.{bounds_in, mark_in, order_hints}
 use Rattle.task_driver.specs.Outcomes.{RefuteBound, formula_of}
 use Rattle.task_driver.specs.Questions.{of_fewest, Formulas}
 use Rattle.task_driver.specs.Sessions.{AreLater}

@@ -1,5 +1,5 @@
 -- How a search for the fewest borders goes on: a call of its solver, and a design with the unit of one border less.
-use Rattle.std.proofs.Common.{◌≡◌, ◌∙◌, ℕ, ◌+◌, ◌<◌, ◌≤◌, Bool, List, [], ◌∷◌, ◌++◌, length, map, refl, sym, ap, subst, arith}
+use Rattle.std.proofs.Common.{◌≡◌, ◌∙◌, ℕ, ◌+◌, ◌<◌, ◌≤◌, Bool, List, [], ◌∷◌, ◌++◌, length, sym, ap, subst, arith}
 use Rattle.std.specs.Prelude.{Option, Some, None}
 use Rattle.std.proofs.lemmas.List.{length-map, map-append}
 use Rattle.sat_core.specs.declared.literal.Lit.{Lit}
@@ -8,7 +8,7 @@ use Rattle.sat_core.specs.Storage.{FormulaParts}
 use Rattle.derivation_log.specs.declared.step.Bound.TheVariants.{AtMost}
 use Rattle.cell_net.specs.Rules.{IsInstance}
 use Rattle.plan_decoder.specs.Decoding.{kept_tables, SatisfiesCount}
-use Rattle.sat_core.specs.Search.{Event, gives, log_of, units_of, adds_in}
+use Rattle.sat_core.specs.Search.{Event, gives, units_of}
 use Rattle.border_counter.specs.Counter.{not_at_least_lit}
 use Rattle.cell_net.specs.Plans.{IsLawful}
 use Rattle.cell_net.specs.declared.ids.CandidateId.{CandidateId}

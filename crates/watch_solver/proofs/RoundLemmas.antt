@@ -1,14 +1,13 @@
 -- A round of the search: what it leaves, that it comes nearer to the end, and what the solver's calls tell of it.
-use Rattle.std.proofs.Common.{◌≡◌, ℕ, ◌+◌, ◌-◌, ◌*◌, ◌^◌, ◌<◌, ◌≤◌, Bool, true, false, inl, inr, List, [], ◌∷◌, ◌++◌, length, get_or, refl, ap, sym, subst, ◌∙◌, arith}
+use Rattle.std.proofs.Common.{◌≡◌, ℕ, ◌+◌, ◌-◌, ◌*◌, ◌<◌, ◌≤◌, Bool, true, false, inl, inr, List, length, refl, ap, sym, subst, ◌∙◌, arith}
 use Rattle.std.specs.Prelude.{Option, Some, None, Result, Ok, Err, OnOk, OnErr, IfOk, slice_get}
 use Rattle.std.proofs.lemmas.Bool.{cases_Bool}
 use Rattle.std.proofs.lemmas.Option.{slice_get_within, get_or_from_slice_get}
-use Rattle.sat_core.specs.declared.literal.Lit.{Lit}
-use Rattle.sat_core.specs.Derivation.{DerivedStep, AddsEmptyClause, EndsInEmptyClause}
+use Rattle.sat_core.specs.Derivation.{DerivedStep, AddsEmptyClause}
 use Rattle.sat_core.specs.Search.{log_of}
 use Rattle.solver_face.specs.declared.answer.Answer.{Answer}
 use Rattle.solver_face.specs.declared.answer.Answer.TheVariants as answer
-use Rattle.solver_face.specs.Solving.{Solving, IsSound, Searched, IsRefuted, AddNoEmptyClause, taken}
+use Rattle.solver_face.specs.Solving.{IsSound, Searched, IsRefuted, AddNoEmptyClause}
 use Rattle.solver_face.proofs.SolvingLaws.{taken_grows, searched_on}
 use Rattle.watch_solver.specs.declared.state.State.{State}
 use Rattle.watch_solver.specs.Running.{watch_solving, first_clauses, LogEnds, IsWatchState, IsSeenAlike, still_to_do}

@@ -1,10 +1,9 @@
 -- Where nothing is open and nothing follows, the valuation of the trail satisfies the formula and the units.
-use Rattle.std.proofs.Common.{◌≡◌, ℕ, zero, suc, ◌<◌, Bool, false, List, [], ◌∷◌, length, map, take, get_or, refl, ap, sym, subst, ◌∙◌, arith}
-use Rattle.std.specs.Prelude.{All, Any}
+use Rattle.std.proofs.Common.{◌≡◌, zero, suc, Bool, false, List, [], ◌∷◌, length, map, take, get_or, ap, sym, subst, ◌∙◌, arith}
+use Rattle.std.specs.Prelude.{All}
 use Rattle.std.proofs.lemmas.List.Elements.{All-nil, All-head, All-tail, All-cons, All-take}
 use Rattle.sat_core.specs.declared.literal.Lit.{Lit}
-use Rattle.sat_core.specs.declared.valuation.Valuation.{Valuation}
-use Rattle.sat_core.specs.Clauses.{IsClause, IsTrueIn, Satisfies, SatisfiesAll}
+use Rattle.sat_core.specs.Clauses.{IsTrueIn, Satisfies, SatisfiesAll}
 use Rattle.sat_core.specs.Hints.{NumberedClause}
 use Rattle.sat_core.specs.Fresh.{IsClosed}
 use Rattle.sat_core.specs.Search.{units_of}

@@ -1,12 +1,12 @@
 -- The watch solver's state keeps what holds of it: at its beginning, where it is seen alike, with a unit and with a learned clause.
-use Rattle.std.proofs.Common.{◌≡◌, ◌≢◌, ℕ, suc, ◌+◌, ◌-◌, ◌^◌, ◌<◌, ◌≤◌, Bool, true, false, ◌⊎◌, inl, inr, List, [], ◌∷◌, ◌++◌, length, take, drop, get_or, min, refl, ap, sym, subst, ◌∙◌, arith}
+use Rattle.std.proofs.Common.{◌≡◌, ◌≢◌, ℕ, suc, ◌+◌, ◌-◌, ◌<◌, ◌≤◌, Bool, true, false, ◌⊎◌, inl, inr, List, [], ◌∷◌, ◌++◌, length, take, drop, get_or, min, refl, ap, sym, subst, ◌∙◌, arith}
 use Rattle.std.specs.Prelude.{All, Any, Contains, Option, Some, None, Ok, Err}
-use Rattle.std.proofs.lemmas.Bool.{cases_eq, cases_lt, cases_Bool}
+use Rattle.std.proofs.lemmas.Bool.{cases_eq, cases_lt}
 use Rattle.std.proofs.lemmas.List.{drop_all, length_push, get_or-take, get_or_default, length-take-le}
 use Rattle.std.proofs.lemmas.List.Elements.{All-nil, All-push, All-take}
 use Rattle.sat_core.specs.declared.literal.Lit.{Lit}
 use Rattle.sat_core.specs.declared.literal.ClauseId.{ClauseId}
-use Rattle.sat_core.specs.Clauses.{negated, IsOver, IsClause}
+use Rattle.sat_core.specs.Clauses.{negated, IsOver}
 use Rattle.sat_core.specs.Derivation.{DerivedStep, adds, AddsEmptyClause, EndsInEmptyClause, numbered_from}
 use Rattle.sat_core.specs.Fresh.{IsUnitUnder}
 use Rattle.sat_core.specs.Hints.{NumberedClause, clause_of, is_known}
@@ -31,7 +31,7 @@ use Rattle.watch_store.proofs.LiveLaws.{AreShortTrue-inserted}
 use Rattle.watch_solver.specs.declared.state.State.{State}
 use Rattle.watch_solver.specs.Running.{watch_solving, first_clauses, LogEnds, DropPlaceTells, AreLiveOf, ClashTells, IsRunning, IsWatchState, IsLearnedStep, IsSeenAlike}
 use Rattle.watch_solver.proofs.LiveLemmas.{first_of_numbered, numbered_upto, rising_numbered, length_numbered, pushed_live, first_stay}
-use Rattle.watch_solver.proofs.SearchLemmas.{vars_now, formula_now, same_search, next_search, same_sound, same_taken, taken_given, taken_added, live_given, live_added, short_above, learned_next}
+use Rattle.watch_solver.proofs.SearchLemmas.{vars_now, formula_now, same_search, next_search, same_sound, same_taken, taken_given, taken_added, live_given, live_added, learned_next}
 use Rattle.watch_solver.proofs.SeatLemmas.{IsSeated, short_grown, conflict_grown, cut_bottom}
 
 -- ---- the trail that has gone back

@@ -5,7 +5,7 @@ use Rattle.sat_core.specs.declared.literal.ClauseId.{ClauseId}
 use Rattle.sat_core.specs.Derivation.{DerivedStep, adds, EndsInEmptyClause}
 use Rattle.sat_core.specs.Hints.{NumberedClause, clause_of}
 use Rattle.sat_core.specs.Search.{Event, derives, Search, IsLearned, IsDropPlace, log_of, units_of}
-use Rattle.search_trail.specs.Trails.{TrailParts, IsTrail}
+use Rattle.search_trail.specs.Trails.{TrailParts}
 use Rattle.conflict_learn.specs.Learning.{IsConflict}
 use Rattle.solver_face.specs.Solving.{Solving, IsSound, AddNoEmptyClause, search_now, taken}
 use Rattle.activity_order.specs.Choices.{OpenOnesWait}

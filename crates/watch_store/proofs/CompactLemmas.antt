@@ -1,14 +1,12 @@
 -- The live clauses alone, each with the watches that it has.
-use Rattle.std.proofs.Common.{◌≡◌, ◌≢◌, ℕ, zero, suc, ◌+◌, ◌-◌, ◌*◌, ◌/◌, ◌<◌, ◌≤◌, ◌⊎◌, inl, inr, List, [], ◌∷◌, ◌++◌, length, take, get_or, refl, ap, sym, subst, ◌∙◌, arith}
+use Rattle.std.proofs.Common.{◌≡◌, ℕ, suc, ◌+◌, ◌*◌, ◌/◌, ◌<◌, ◌≤◌, inl, inr, List, [], ◌∷◌, ◌++◌, length, take, get_or, refl, ap, sym, subst, ◌∙◌, arith}
 use Rattle.std.specs.Prelude.{All, Contains, Option, Some, None}
-use Rattle.std.proofs.lemmas.Bool.{cases_lt}
 use Rattle.std.proofs.lemmas.List.{take_more, length-take-le, append-nil, length_push}
 use Rattle.std.proofs.lemmas.List.Elements.{All-nil, All-cons, All-head, All-tail}
 use Rattle.sat_core.specs.declared.literal.Lit.{Lit}
 use Rattle.sat_core.specs.declared.literal.ClauseId.{ClauseId}
 use Rattle.sat_core.specs.Clauses.{IsClause}
 use Rattle.sat_core.specs.Hints.{NumberedClause, clause_of}
-use Rattle.search_trail.specs.declared.entry.Entry.{Entry}
 use Rattle.search_trail.specs.Trails.{TrailParts, IsTrail}
 use Rattle.search_trail.specs.Reasons.{AreReasons}
 use Rattle.search_trail.proofs.ReasonLaws.{apart-eqb}
@@ -21,7 +19,7 @@ use Rattle.watch_store.proofs.PlaceLemmas.{clause_under}
 use Rattle.watch_store.proofs.LiveLaws.{IsInserted-last}
 use Rattle.watch_store.proofs.AddLemmas.{pair_at, pair_before, node_cases}
 use Rattle.watch_store.proofs.EndLemmas.{IsGuarded-idle, IsEndable-of}
-use Rattle.watch_store.proofs.StoreLemmas.{parts_of, all_over, all_watched}
+use Rattle.watch_store.proofs.StoreLemmas.{parts_of, all_watched}
 
 -- ---- the live clauses, number by number
 live_append : (clauses : List (List Lit)) (first : ℕ) (places more : List (Option ℕ)) → live_from clauses first (places ++ more) ≡ live_from clauses first places ++ live_from clauses (first + length places) more

@@ -30,7 +30,7 @@ use vss_steps::Steps;
 /// The live clauses of a search. Each one of two or more literals stands in the chains of the two that it watches, and in
 /// no others; the chains are linked by index in flat vectors.
 ///
-/// It takes eight bytes a literal, 40 for each clause that was added, eight for each number up to the greatest, and eight
+/// It takes eight bytes a literal, 32 for each clause that was added, eight for each number up to the greatest, and eight
 /// a variable.
 #[derive(Debug, Drop)]
 pub struct WatchStore {

@@ -1,5 +1,5 @@
 -- Why `put_above` does what its contract says.
-use Rattle.std.proofs.Common.{◌≡◌, ◌+◌, ◌-◌, ◌<◌, length, get_or, ap, sym, subst, ◌∙◌, arith, false}
+use Rattle.std.proofs.Common.{◌≡◌, ◌+◌, ◌-◌, ◌<◌, length, ap, subst, ◌∙◌, arith}
 use Rattle.sat_core.specs.declared.literal.Lit.{Lit}
 use Rattle.sat_core.specs.Clauses.{IsOver}
 use Rattle.activity_order.specs.Choices.{OrderParts}

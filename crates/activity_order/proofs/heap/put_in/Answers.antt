@@ -1,5 +1,5 @@
 -- Why `put_in` does what its contract says.
-use Rattle.std.proofs.Common.{◌≡◌, ◌+◌, ◌<◌, ◌≤◌, true, length, get_or, set, refl, ap, ◌∙◌, arith}
+use Rattle.std.proofs.Common.{◌+◌, ◌<◌, true, length, get_or, set, refl, ap, ◌∙◌, arith}
 use Rattle.activity_order.proofs.RankLemmas.{exchanged_second}
 use Rattle.activity_order.proofs.PlaceLemmas.{waits_more}
 use Rattle.activity_order.proofs.heap.put_in.Goals as goal

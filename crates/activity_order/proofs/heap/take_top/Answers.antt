@@ -1,5 +1,5 @@
 -- Why `take_top` does what its contract says.
-use Rattle.std.proofs.Common.{◌≡◌, ◌+◌, ◌-◌, ◌<◌, ◌≤◌, false, length, get_or, set, ap, ◌∙◌, arith}
+use Rattle.std.proofs.Common.{◌-◌, ◌<◌, false, length, get_or, set, ap, ◌∙◌, arith}
 use Rattle.activity_order.proofs.RankLemmas.{exchanged_second}
 use Rattle.activity_order.proofs.PlaceLemmas.{waits_less}
 use Rattle.activity_order.proofs.HeapLemmas.{top_first}

@@ -1,12 +1,9 @@
 -- Why `search_fewest` does what its contract says.
-use Rattle.std.proofs.Common.{◌≡◌, ◌∙◌, ◌-◌, ◌<◌, ◌≤◌, ◌+◌, ◌++◌, ◌∷◌, [], ℕ, List, length, refl, sym, ap, subst, arith}
-use Rattle.std.proofs.lemmas.List.{map-append}
+use Rattle.std.proofs.Common.{◌≡◌, ◌∙◌, ◌-◌, ◌+◌, ℕ, length, sym, ap, subst, arith}
 use Rattle.sat_core.specs.Clauses.{IsOver}
 use Rattle.border_counter.specs.Counter.{not_at_least_lit}
 use Rattle.derivation_log.specs.declared.step.Bound.TheVariants.{AtMost}
 use Rattle.task_driver.specs.BoundUnits.{bounds_in}
-use Rattle.task_driver.specs.Underway.{last_number}
-use Rattle.task_driver.specs.declared.units.BoundUnit.{BoundUnit}
 use Rattle.task_driver.proofs.CounterLemmas.{literal_over}
 use Rattle.task_driver.proofs.EncodingLemmas.{formulas_in, keeps_tables, satisfies_task}
 use Rattle.task_driver.proofs.SearchingLemmas.{begin_on, found_on, layout_on, next_on, searched_on, units_counted}

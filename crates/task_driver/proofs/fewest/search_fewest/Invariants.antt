@@ -1,5 +1,4 @@
 -- What the loop of `search_fewest` keeps from turn to turn.
-use Rattle.std.proofs.Common.{◌≡◌, length}
 use Rattle.task_driver.proofs.SearchingLemmas.{IsOn}
 use Rattle.task_driver.proofs.fewest.search_fewest.Given as goal
 

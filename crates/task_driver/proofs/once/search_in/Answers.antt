@@ -1,5 +1,5 @@
 -- Why `search_in` does what its contract says.
-use Rattle.std.proofs.Common.{◌≡◌, ◌∙◌, ◌≤◌, length, subst, arith}
+use Rattle.std.proofs.Common.{◌∙◌, length, subst, arith}
 use Rattle.derivation_log.specs.Steps.{derived_steps}
 use Rattle.clause_encoder.specs.declared.task.Task.{Task}
 use Rattle.solver_face.proofs.SolvingLaws.{taken_at_first}

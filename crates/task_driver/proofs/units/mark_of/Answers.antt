@@ -1,5 +1,5 @@
 -- Why the loop of `mark_of` goes on as it should.
-use Rattle.std.proofs.Common.{◌≡◌, ◌-◌, arith}
+use Rattle.std.proofs.Common.{◌-◌, arith}
 use Rattle.task_driver.proofs.ChainLemmas.{hints_more}
 use Rattle.task_driver.proofs.units.mark_of.Goals as goal
 

@@ -1,5 +1,5 @@
 -- Why `bump_met` does what its contract says.
-use Rattle.std.proofs.Common.{◌≡◌, ℕ, sym, subst}
+use Rattle.std.proofs.Common.{ℕ, sym, subst}
 use Rattle.std.specs.Prelude.{All}
 use Rattle.sat_core.specs.Clauses.{IsClause, IsOver}
 use Rattle.watch_solver.proofs.SeatLemmas.{found_all}

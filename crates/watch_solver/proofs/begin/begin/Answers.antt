@@ -1,5 +1,5 @@
 -- Why `begin` does what its contract says.
-use Rattle.std.proofs.Common.{◌≡◌, ℕ, true, false, inr, length, refl, ap, sym, subst, ◌∙◌}
+use Rattle.std.proofs.Common.{◌≡◌, ℕ, true, false, inr, length, refl, ap, sym, ◌∙◌}
 use Rattle.std.specs.Prelude.{replicate}
 use Rattle.std.proofs.lemmas.List.{length-replicate}
 use Rattle.activity_order.proofs.WaitLaws.{wait_all, wait_grown}

@@ -1,8 +1,7 @@
 -- Why `keep` does what its contract says.
-use Rattle.std.proofs.Common.{◌≡◌, ◌+◌, ◌≤◌, ◌⊎◌, false, length, get_or, refl, ap, sym, subst, ◌∙◌, arith}
+use Rattle.std.proofs.Common.{◌+◌, ◌≤◌, ◌⊎◌, false, length, get_or, refl, ap, sym, subst, ◌∙◌, arith}
 use Rattle.std.specs.Prelude.{All}
 use Rattle.std.proofs.lemmas.List.{get_or_default}
-use Rattle.sat_core.specs.declared.literal.Lit.{Lit}
 use Rattle.sat_core.specs.Clauses.{IsClause}
 use Rattle.sat_core.specs.Fresh.{IsOpen, IsUnitUnder}
 use Rattle.sat_core.specs.Hints.{NumberedClause}

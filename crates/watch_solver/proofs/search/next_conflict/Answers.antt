@@ -1,5 +1,5 @@
 -- Why `next_conflict` does what its contract says.
-use Rattle.std.proofs.Common.{◌≡◌, refl, ap, sym, subst, ◌∙◌}
+use Rattle.std.proofs.Common.{refl, sym, subst}
 use Rattle.search_trail.specs.Trails.{known_of}
 use Rattle.sat_core.specs.Fresh.{IsClosed}
 use Rattle.activity_order.proofs.WaitLaws.{wait_grown}

@@ -1,6 +1,6 @@
 -- Why `settle` does what its contract says.
-use Rattle.std.proofs.Common.{◌≡◌, true, refl, ap, sym, subst, ◌∙◌}
-use Rattle.std.specs.Prelude.{None, length}
+use Rattle.std.proofs.Common.{◌≡◌, true, refl, ap, subst}
+use Rattle.std.specs.Prelude.{length}
 use Rattle.search_trail.specs.Trails.{TrailParts, known_of}
 use Rattle.trail_values.specs.Full.{AreTruths}
 use Rattle.watch_solver.specs.Running.{IsSeenAlike}

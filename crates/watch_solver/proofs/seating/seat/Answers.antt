@@ -1,5 +1,5 @@
 -- Why `seat` does what its contract says.
-use Rattle.std.proofs.Common.{◌<◌, length, arith}
+use Rattle.std.proofs.Common.{arith}
 use Rattle.std.proofs.lemmas.List.{get_or_default}
 use Rattle.watch_solver.proofs.SeatLemmas.{lit_over, seated_true, seat_fits, seat_open}
 use Rattle.watch_solver.proofs.seating.seat.Goals as goal

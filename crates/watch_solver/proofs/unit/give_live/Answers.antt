@@ -1,7 +1,6 @@
 -- Why `give_live` does what its contract says.
-use Rattle.std.proofs.Common.{◌≡◌, ◌+◌, ◌<◌, false, List, [], ◌∷◌, length, refl, ap, sym, subst, ◌∙◌, arith}
+use Rattle.std.proofs.Common.{◌≡◌, ◌+◌, ◌<◌, false, length, refl, ap, sym, subst, ◌∙◌, arith}
 use Rattle.std.specs.Prelude.{Some}
-use Rattle.sat_core.specs.declared.literal.Lit.{Lit}
 use Rattle.watch_store.specs.Places.{IsInserted}
 use Rattle.watch_store.proofs.LiveLaws.{clause_of-itself}
 use Rattle.watch_solver.proofs.LiveLemmas.{new_number}

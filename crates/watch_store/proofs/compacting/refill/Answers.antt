@@ -5,7 +5,6 @@ use Rattle.sat_core.specs.declared.literal.Lit.{Lit}
 use Rattle.sat_core.specs.Clauses.{IsClause}
 use Rattle.sat_core.specs.Hints.{clause_of}
 use Rattle.watch_store.specs.Places.{live_in}
-use Rattle.watch_store.specs.Watching.{watches_of}
 use Rattle.watch_store.specs.Fits.{IsPair}
 use Rattle.watch_store.proofs.CompactLemmas.{number_free, refilled_some, refilled_none}
 use Rattle.watch_store.proofs.compacting.refill.Goals.{in-Some+in_ok-put-in-Some, in-None}

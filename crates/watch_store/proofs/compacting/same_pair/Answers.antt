@@ -1,5 +1,5 @@
 -- Why `same_pair` does what its contract says.
-use Rattle.std.proofs.Common.{◌≡◌, ◌+◌, ◌*◌, ◌<◌, ◌≤◌, false, List, length, get_or, ap, arith}
+use Rattle.std.proofs.Common.{◌+◌, ◌*◌, ◌<◌, ◌≤◌, false, List, length, get_or, ap, arith}
 use Rattle.std.proofs.lemmas.List.{length-map}
 use Rattle.sat_core.specs.declared.literal.Lit.{Lit}
 use Rattle.watch_store.specs.declared.node.Node.{Node}

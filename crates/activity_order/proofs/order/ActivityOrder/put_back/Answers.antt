@@ -1,5 +1,5 @@
 -- Why `ActivityOrder::put_back` does what its contract says.
-use Rattle.std.proofs.Common.{◌≡◌, ◌-◌, ◌<◌, ◌≤◌, true, length, get_or, set, ap, sym, subst, arith}
+use Rattle.std.proofs.Common.{◌≡◌, ◌-◌, ◌<◌, ◌≤◌, true, get_or, set, ap, sym, subst, arith}
 use Rattle.activity_order.specs.Choices.{OrderParts}
 use Rattle.activity_order.proofs.PlaceLemmas.{waits-already}
 use Rattle.activity_order.proofs.order.ActivityOrder.put_back.Goals as goal

@@ -1,5 +1,5 @@
 -- Why `WatchSolverSolver::add_unit` does what its contract says.
-use Rattle.std.proofs.Common.{◌≡◌, ◌+◌, [], ◌∷◌, ◌++◌, ap, arith, ◌∙◌}
+use Rattle.std.proofs.Common.{◌≡◌, ◌+◌, [], ◌∷◌, ◌++◌, ap, ◌∙◌}
 use Rattle.sat_core.specs.Search.{gives, log_of, units_of}
 use Rattle.sat_core.proofs.SearchLaws.{units_given, log_given}
 use Rattle.solver_face.specs.Solving.{Solving, taken}

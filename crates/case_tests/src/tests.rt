@@ -1,0 +1,4 @@
+//! Tests of made cases.
+
+mod printed;
+mod scenes;
