@@ -1,4 +1,4 @@
-//! Tests of the formulas of small instances: clause by clause, and by their sizes.
+//! Tests of formulas and of the numbers of their variables: small instances clause by clause, large ones by their sizes.
 #![tactic(auto)]
 
 #[cfg(test)]

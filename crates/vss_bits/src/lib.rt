@@ -4,3 +4,6 @@
 mod bits;
 
 pub use bits::Bits;
+
+#[cfg(test)]
+mod tests;
