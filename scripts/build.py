@@ -16,7 +16,7 @@ from concurrent.futures import FIRST_COMPLETED, ThreadPoolExecutor, wait
 
 TOP = os.path.dirname(os.path.dirname(os.path.abspath(__file__)))
 A_CHECK = 3_000_000_000  # bytes that the check of a large crate takes
-ABOUT = "on four processors some 15 minutes where nothing is kept, and seconds for what is proved already"
+ABOUT = "on four processors half an hour or more where nothing is kept, and seconds for what is proved already"
 
 
 def say(text):
