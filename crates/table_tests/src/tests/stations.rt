@@ -75,9 +75,7 @@ fn check_row(rt: &impl Abort, alloc: Global, row: Row) -> Result<(), Fail> {
 /// Whether these are so many cells, all of them among the station's.
 fn is_within(cells: &[DirCell], length: u32, station: &[u32]) -> bool {
     cells.len() == length as usize
-        && cells
-            .iter()
-            .all(|directed| station.iter().any(|cell| *cell == directed.cell.0))
+        && cells.iter().all(|directed| station.iter().any(|cell| *cell == directed.cell.0))
 }
 
 fn instance_of(rt: &impl Abort, alloc: Global, row: Row) -> Result<Instance, Fail> {
