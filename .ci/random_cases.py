@@ -153,7 +153,7 @@ def main():
     options = argparse.ArgumentParser()
     options.add_argument("program")
     options.add_argument("--seed", type=int, default=1)
-    options.add_argument("--cases", type=int, default=40)
+    options.add_argument("--cases", type=int, default=150)
     options.add_argument("--seconds", type=int, default=100)
     options.add_argument("--only", choices=["judge"])
     options = options.parse_args()
