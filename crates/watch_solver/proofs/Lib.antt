@@ -1,5 +1,6 @@
 -- The lemmas of `watch_solver`, each file a subject.
 pub mod DropLemmas
+pub mod LearnedLemmas
 pub mod LiveLemmas
 pub mod LubyLemmas
 pub mod RoundLemmas

@@ -9,7 +9,8 @@ use Rattle.search_trail.specs.Trails.{known_of, assigned}
 use Rattle.watch_store.specs.Places.{IsInserted}
 use Rattle.watch_store.specs.Fits.{FitsTrail, HasTwoNotFalse, IsUnitNow}
 use Rattle.watch_solver.proofs.LiveLemmas.{new_number}
-use Rattle.watch_solver.proofs.StateLemmas.{fits_back, back_within, watchable_cut, first_unit, formula_grown, solving_same, learned_state, lent_long, some_long, on_err}
+use Rattle.watch_solver.proofs.StateLemmas.{fits_back, formula_grown, solving_same, lent_long, some_long, on_err}
+use Rattle.watch_solver.proofs.LearnedLemmas.{back_within, watchable_cut, first_unit, learned_state}
 use Rattle.watch_solver.proofs.conflict.keep.Goals as goal
 
 pub bump_met-requires-clause-over : goal.bump_met-requires-clause-over

@@ -1,6 +1,6 @@
 -- Why `refute` does what its contract says.
 use Rattle.std.proofs.Common.{◌+◌, true, refl}
-use Rattle.watch_solver.proofs.StateLemmas.{refuted_state}
+use Rattle.watch_solver.proofs.LearnedLemmas.{refuted_state}
 use Rattle.watch_solver.proofs.conflict.refute.Goals as goal
 
 pub returns-clause-state : goal.returns-clause-state

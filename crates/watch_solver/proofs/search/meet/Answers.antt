@@ -2,7 +2,8 @@
 use Rattle.std.proofs.Common.{false, sym, subst, arith}
 use Rattle.solver_face.specs.Solving.{Solving, Searched}
 use Rattle.watch_solver.specs.Running.{watch_solving}
-use Rattle.watch_solver.proofs.StateLemmas.{met_searched, ends_in_add}
+use Rattle.watch_solver.proofs.StateLemmas.{met_searched}
+use Rattle.watch_solver.proofs.LearnedLemmas.{ends_in_add}
 use Rattle.watch_solver.proofs.RoundLemmas.{on_alike}
 use Rattle.watch_solver.proofs.DropLemmas.{just_added_of, dropped_searched}
 use Rattle.watch_solver.proofs.search.meet.Goals as goal
