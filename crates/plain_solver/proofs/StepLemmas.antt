@@ -15,7 +15,7 @@ use Rattle.sat_core.specs.Search.{Event, gives, derives, Search, search_of, afte
 use Rattle.sat_core.proofs.SearchLaws.{after_events-append}
 use Rattle.search_trail.specs.Trails.{TrailParts, IsTrail, IsCut}
 use Rattle.conflict_learn.specs.Learning.{IsLearnedFrom}
-use Rattle.solver_face.specs.Solving.{search_now, taken, Searched, IsRefuted, IsAnswer, EndsInAdd, AddNoEmptyClause}
+use Rattle.solver_face.specs.Solving.{search_now, numbers_used, Searched, IsRefuted, IsAnswer, EndsInAdd, AddNoEmptyClause}
 use Rattle.solver_face.specs.declared.answer.Answer.TheVariants as answer
 use Rattle.solver_face.proofs.SolvingLaws.{sound_more, searched_none, searched_add}
 use Rattle.plain_solver.specs.declared.state.State.{State}
@@ -28,9 +28,9 @@ use Rattle.plain_solver.proofs.StateLemmas.{weave-unit, weave-step, log_of-weave
 pub log_is : (s : State) → IsState s → log_of (events_of s) ≡ derived_steps s.log.steps
 log_is s state = log_of-weave s.history.items (derived_steps s.log.steps) (state.woven ∙ sym (length-map s.log.steps derived))
 
--- as many numbers are taken as there are clauses
-pub taken_is : (s : State) (starved : Bool) → IsState s → taken (solving_of s starved) ≡ length s.clauses.clauses
-taken_is s starved state =
+-- as many clause numbers are in use as there are clauses
+pub numbers_used_is : (s : State) (starved : Bool) → IsState s → numbers_used (solving_of s starved) ≡ length s.clauses.clauses
+numbers_used_is s starved state =
     let whole : length s.clauses.clauses ≡ length (clauses_given s ++ added_by (events_of s)) = ap length state.all in
     omega (arith, whole, Rattle.std.proofs.lemmas.List.length-append (clauses_given s) (added_by (events_of s)), length-added (events_of s))
 
@@ -238,7 +238,7 @@ conflicts_are s state = ap adds_in (log_is s state) ∙ (adds_in-all (derived_st
 
 pub steps_few : (s : State) → IsState s → length s.log.steps < 2 ^ 32
 steps_few s state =
-    let whole : length (clauses_given s) + length (units_of (events_of s)) + adds_in (log_of (events_of s)) ≡ length s.clauses.clauses = taken_is s false state in
+    let whole : length (clauses_given s) + length (units_of (events_of s)) + adds_in (log_of (events_of s)) ≡ length s.clauses.clauses = numbers_used_is s false state in
     omega (arith, state.few, conflicts_are s state)
 
 not_refuted : (steps : List DerivedStep) (last : Option DerivedStep) → slice_get steps (length steps - 1) ≡ last → AddNoEmptyClause steps → AddsEmptyClause last → ⊥
@@ -267,8 +267,8 @@ on_either (Err e) P Q R one other make_one make_other = make_other other
 pub answered : {E : Type 0} (r : Result Rattle.solver_face.specs.declared.answer.Answer.Answer E) → r ≡ Ok answer.Unsat → Rattle.std.specs.Prelude.IfOk r (λ a. a ≡ answer.Unsat)
 answered r is = subst (λ (x : Result Rattle.solver_face.specs.declared.answer.Answer.Answer _). Rattle.std.specs.Prelude.IfOk x (λ a. a ≡ answer.Unsat)) (sym is) refl
 
-pub taken_unit : (s n : State) (lit : Lit) (one other : Bool) → clauses_given n ≡ clauses_given s → events_of n ≡ events_of s ++ gives lit ∷ [] → taken (solving_of n other) ≡ taken (solving_of s one) + 1
-taken_unit s n lit one other formula grew =
+pub numbers_used_unit : (s n : State) (lit : Lit) (one other : Bool) → clauses_given n ≡ clauses_given s → events_of n ≡ events_of s ++ gives lit ∷ [] → numbers_used (solving_of n other) ≡ numbers_used (solving_of s one) + 1
+numbers_used_unit s n lit one other formula grew =
     let units : length (units_of (events_of n)) ≡ length (units_of (events_of s)) + 1 = ap (λ e. length (units_of e)) grew ∙ (ap length (Rattle.sat_core.proofs.SearchLaws.units_given (events_of s) lit) ∙ length_push (units_of (events_of s)) lit) in
     let adds : adds_in (log_of (events_of n)) ≡ adds_in (log_of (events_of s)) = ap (λ e. adds_in (log_of e)) grew ∙ Rattle.sat_core.proofs.SearchLaws.adds_given (events_of s) lit in
     let given : length (clauses_given n) ≡ length (clauses_given s) = ap length formula in

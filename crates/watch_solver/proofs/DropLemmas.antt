@@ -16,7 +16,7 @@ use Rattle.sat_core.proofs.SearchLaws.{log_of-append, units_of-append}
 use Rattle.search_trail.specs.declared.entry.Entry.{Entry}
 use Rattle.search_trail.specs.Trails.{TrailParts}
 use Rattle.search_trail.specs.Reasons.{AreReasons, IsReason}
-use Rattle.solver_face.specs.Solving.{Solving, IsSound, search_now, taken, AddNoEmptyClause}
+use Rattle.solver_face.specs.Solving.{Solving, IsSound, search_now, numbers_used, AddNoEmptyClause}
 use Rattle.solver_face.proofs.SolvingLaws.{sound_more}
 use Rattle.watch_store.specs.Fits.{StoreParts, FitsTrail, AreShortTrue}
 use Rattle.watch_solver.specs.declared.state.State.{State}

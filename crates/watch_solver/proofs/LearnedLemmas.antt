@@ -29,7 +29,7 @@ use Rattle.watch_store.proofs.LiveLaws.{AreShortTrue-inserted}
 use Rattle.watch_solver.specs.declared.state.State.{State}
 use Rattle.watch_solver.specs.Running.{watch_solving, first_clauses, LogEnds, DropPlaceTells, AreLiveOf, ClashTells, IsRunning, IsWatchState, IsLearnedStep}
 use Rattle.watch_solver.proofs.LiveLemmas.{pushed_live}
-use Rattle.watch_solver.proofs.SearchLemmas.{vars_now, formula_now, next_search, taken_added, live_added, learned_next}
+use Rattle.watch_solver.proofs.SearchLemmas.{vars_now, formula_now, next_search, numbers_used_added, live_added, learned_next}
 use Rattle.watch_solver.proofs.SeatLemmas.{IsSeated, short_grown, conflict_grown, cut_bottom}
 use Rattle.watch_solver.proofs.StateLemmas.{formula_alike, formula_inserted}
 
@@ -138,7 +138,7 @@ refuted_state s n id lits hints level state open_yet number none learned store g
     let formula : first_clauses n.given n.store.live ≡ first_clauses s.given s.store.live = formula_alike s n (ap (λ x. x.live) store) given in (
       record {
         sound = sound_more old new (derives (adds id lits hints)) state.sound (next_learned s id lits hints level run number learned) vars formula history;
-        numbers = last ∙ (ap (λ k. k + 1) state.numbers ∙ sym (taken_added old new id lits hints formula history));
+        numbers = last ∙ (ap (λ k. k + 1) state.numbers ∙ sym (numbers_used_added old new id lits hints formula history));
         log_ends = subst (λ b. LogEnds b (log_of n.history)) (sym refuted) (subst EndsInEmptyClause (sym (log_more s.history n.history id lits hints history)) (ends_empty (log_of s.history) id lits hints none));
         drop_place = subst DropPlaceTells (sym place) state.drop_place;
         running = λ still. absurd (Rattle.sat_core.proofs.OpenLaws.true_is_not_false (sym refuted ∙ still));
@@ -194,7 +194,7 @@ learned_state s n t1 id lits hints level lit state open_yet number some first le
     let none : AddNoEmptyClause (log_of s.history) = subst (λ b. LogEnds b (log_of s.history)) open_yet state.log_ends in (
       record {
         sound = sound_more old new step state.sound next vars formula history;
-        numbers = last ∙ (ap (λ k. k + 1) state.numbers ∙ sym (taken_added old new id lits hints formula history));
+        numbers = last ∙ (ap (λ k. k + 1) state.numbers ∙ sym (numbers_used_added old new id lits hints formula history));
         log_ends = subst (λ b. LogEnds b (log_of n.history)) (sym (refuted ∙ open_yet)) (subst AddNoEmptyClause (sym (log_more s.history n.history id lits hints history)) (adds_some (log_of s.history) id lits hints some none));
         drop_place = subst DropPlaceTells (sym place) state.drop_place;
         running = λ still. record {

@@ -16,7 +16,7 @@ use Rattle.search_trail.specs.declared.entry.Entry.{Entry}
 use Rattle.search_trail.specs.Trails.{TrailParts, IsTrail, IsCut, Grows, known_of, up_to, assigned}
 use Rattle.search_trail.proofs.TrailLaws.{IsTrail-cut}
 use Rattle.conflict_learn.specs.Learning.{IsConflict}
-use Rattle.solver_face.specs.Solving.{Solving, IsSound, search_now, taken, Searched, IsRefuted, IsAnswer, EndsInAdd}
+use Rattle.solver_face.specs.Solving.{Solving, IsSound, search_now, numbers_used, Searched, IsRefuted, IsAnswer, EndsInAdd}
 use Rattle.solver_face.specs.declared.answer.Answer.TheVariants as answer
 use Rattle.solver_face.proofs.SolvingLaws.{sound_more, searched_none, searched_add}
 use Rattle.activity_order.specs.Choices.{OpenOnesWait, IsNextDecision}
@@ -28,7 +28,7 @@ use Rattle.watch_store.proofs.LiveLaws.{AreShortTrue-inserted}
 use Rattle.watch_solver.specs.declared.state.State.{State}
 use Rattle.watch_solver.specs.Running.{watch_solving, first_clauses, LogEnds, DropPlaceTells, AreLiveOf, ClashTells, IsRunning, IsWatchState, IsLearnedStep, IsSeenAlike}
 use Rattle.watch_solver.proofs.LiveLemmas.{first_of_numbered, numbered_upto, rising_numbered, length_numbered, pushed_live, first_stay}
-use Rattle.watch_solver.proofs.SearchLemmas.{vars_now, same_search, next_search, same_sound, same_taken, taken_given, live_given}
+use Rattle.watch_solver.proofs.SearchLemmas.{vars_now, same_search, next_search, same_sound, same_numbers_used, numbers_used_given, live_given}
 use Rattle.watch_solver.proofs.SeatLemmas.{IsSeated, short_grown, conflict_grown, cut_bottom}
 
 -- ---- the trail that has gone back
@@ -84,7 +84,7 @@ pub alike_state : (s n : State) → IsWatchState s → IsSeenAlike s n → DropP
 alike_state s n state alike place running = record {
   drop_place = place;
   sound = sound_alike s n state.sound alike.vars alike.live alike.given alike.history;
-  numbers = alike.last ∙ (state.numbers ∙ sym (same_taken (watch_solving s false) (watch_solving n false) (formula_alike s n alike.live alike.given) alike.history));
+  numbers = alike.last ∙ (state.numbers ∙ sym (same_numbers_used (watch_solving s false) (watch_solving n false) (formula_alike s n alike.live alike.given) alike.history));
   log_ends = subst (λ b. LogEnds b (log_of n.history)) (sym alike.refuted) (subst (λ es. LogEnds s.refuted (log_of es)) (sym alike.history) state.log_ends);
   running = λ open_yet. running (sym alike.refuted ∙ open_yet);
 }
@@ -110,7 +110,7 @@ begin_state n clauses live given last history fits waiting space values stamps r
       sound = record { events = subst (λ es. Rattle.sat_core.specs.Search.AreNext (search_of n.store.vars (first_clauses n.given n.store.live)) es) (sym history) tt };
       numbers =
           let many : length (first_clauses n.given n.store.live) ≡ n.given = ap length formula ∙ sym given in
-          let whole : taken (watch_solving n false) ≡ length (first_clauses n.given n.store.live) + 0 + 0 = ap (λ es. length (first_clauses n.given n.store.live) + length (units_of es) + Rattle.sat_core.specs.Search.adds_in (log_of es)) history in
+          let whole : numbers_used (watch_solving n false) ≡ length (first_clauses n.given n.store.live) + 0 + 0 = ap (λ es. length (first_clauses n.given n.store.live) + length (units_of es) + Rattle.sat_core.specs.Search.adds_in (log_of es)) history in
           omega (arith, many, whole, last);
       log_ends = subst (λ b. LogEnds b (log_of n.history)) (sym refuted) (subst (λ es. LogEnds false (log_of es)) (sym history) (All-nil (λ (step : DerivedStep). ¬ AddsEmptyClause (Some step))));
       drop_place = place;
@@ -186,7 +186,7 @@ given_state s n lit id t1 clash state open_yet over number vars inserted given l
     let search : search_now new ≡ after_event (search_now old) (gives lit) = next_search old new (gives lit) vars formula history in
     record {
       sound = sound_more old new (gives lit) state.sound (subst (λ v. IsOver v lit) (sym (vars_now old)) over) vars formula history;
-      numbers = last ∙ (ap (λ k. k + 1) state.numbers ∙ sym (taken_given old new lit formula history));
+      numbers = last ∙ (ap (λ k. k + 1) state.numbers ∙ sym (numbers_used_given old new lit formula history));
       log_ends = subst (λ b. LogEnds b (log_of n.history)) (sym refuted) (subst (LogEnds s.refuted) (sym (log_stays s.history n.history lit history)) state.log_ends);
       drop_place = subst DropPlaceTells (sym place) state.drop_place;
       running = λ still. record {
@@ -215,7 +215,7 @@ given_refuted s n lit state closed over store given last history refuted place =
     let formula : first_clauses n.given n.store.live ≡ first_clauses s.given s.store.live = formula_alike s n (ap (λ x. x.live) store) given in
     record {
       sound = sound_more old new (gives lit) state.sound (subst (λ v. IsOver v lit) (sym (vars_now old)) over) vars formula history;
-      numbers = last ∙ (ap (λ k. k + 1) state.numbers ∙ sym (taken_given old new lit formula history));
+      numbers = last ∙ (ap (λ k. k + 1) state.numbers ∙ sym (numbers_used_given old new lit formula history));
       log_ends = subst (λ b. LogEnds b (log_of n.history)) (sym refuted) (subst (LogEnds s.refuted) (sym (log_stays s.history n.history lit history)) state.log_ends);
       drop_place = subst DropPlaceTells (sym place) state.drop_place;
       running = λ still. absurd (Rattle.sat_core.proofs.OpenLaws.true_is_not_false (sym closed ∙ (sym refuted ∙ still)));
