@@ -1,26 +1,23 @@
 -- The candidates rise, and each is a node that joins two cells of one section.
-use Rattle.std.proofs.Common.{◌≡◌, ◌≢◌, ◌+◌, ◌-◌, ◌<◌, ◌≤◌, ◌⊎◌, inl, inr, ℕ, zero, suc, Bool, true, false, List, [], ◌∷◌, ◌++◌, length, map, get_or, Some, slice_get, refl, sym, ap, subst, ◌∙◌, arith}
+use Rattle.std.proofs.Common.{◌≡◌, ◌≢◌, ◌+◌, ◌-◌, ◌<◌, ◌≤◌, ◌⊎◌, inl, inr, ℕ, zero, suc, Bool, true, false, List, [], ◌∷◌, ◌++◌, length, map, Some, slice_get, refl, sym, ap, subst, ◌∙◌, arith}
 use Rattle.std.specs.Prelude.{◌==◌, if◌then◌else◌}
 use Rattle.std.specs.List.{Contains, flat_map, range_with_len}
 use Rattle.std.proofs.lemmas.Bool.Decides.{eqb_tells}
 use Rattle.std.proofs.lemmas.List.Sums.{sum_by-cons}
-use Rattle.std.proofs.lemmas.List.Elements.{Contains-append_cases, Contains-get_or}
-use Rattle.std.proofs.lemmas.Option.{same_Some, slice_get_within, slice_get-get_or}
+use Rattle.std.proofs.lemmas.List.Elements.{Contains-append_cases}
+use Rattle.std.proofs.lemmas.Option.{same_Some, slice_get_within}
 use Rattle.vss_lists.specs.Breaks.{HoldsOfEach}
 use Rattle.cell_net.specs.Borders.{IsAboveLast, IsAtEnd, IsCellAt, IsInSection}
 use Rattle.cell_net.specs.Rules.{IsGoodCandidate, IsNodeOf, JoinsTwoCells, node_at}
 use Rattle.cell_net.specs.declared.ids.CellId.{CellId}
 use Rattle.cell_net.specs.declared.ids.NodeId.{NodeId}
-use Rattle.cell_net.specs.declared.cells.CellEnd.{CellEnd}
 use Rattle.cell_net.specs.declared.cells.CellSpec.{CellSpec}
 use Rattle.cell_net.specs.declared.cells.End.{End}
 use Rattle.cell_net.specs.declared.cells.End.TheVariants.{Low, High}
 use Rattle.cell_net.specs.declared.parts.InstanceParts.{InstanceParts}
-use Rattle.rail_net.specs.Parts.{EndsAt, IsNode, IsTrackOfSection, node_names}
-use Rattle.rail_net.specs.Borders.{IsBorderJoint, IsJoint}
+use Rattle.rail_net.specs.Borders.{IsJoint}
 use Rattle.rail_net.specs.Sections.{IsOfOneSection}
 use Rattle.rail_net.specs.Refusals.{IsNet}
-use Rattle.rail_net.specs.Rules.{degree}
 use Rattle.rail_net.specs.declared.parts.NodeKind.TheVariants.{Joint}
 use Rattle.rail_net.specs.declared.parts.NodePart.{NodePart}
 use Rattle.rail_net.specs.declared.parts.TrackPart.{TrackPart}
@@ -33,16 +30,14 @@ use Rattle.discretise.specs.Joins.{ends_at, ends_in, high_end, low_end}
 use Rattle.discretise.specs.Places.{AreFreeJoints, IsFreeJoint, candidates_on, cuts_in, open_cuts}
 use Rattle.discretise.specs.declared.tracks.GridTrack.{GridTrack}
 use Rattle.discretise.specs.declared.ends.TrackEnd.{TrackEnd}
-use Rattle.discretise.proofs.ChainLemmas.{Chained, IsPlaced, chained, node_cases, one_by_cut, row_is}
+use Rattle.discretise.proofs.ChainLemmas.{Chained, chained, node_cases, one_by_cut, row_is}
 use Rattle.discretise.proofs.DegreeLemmas.{ends_count}
-use Rattle.discretise.proofs.GridLemmas.{IsEndAt, flat_has, high_at, low_at}
+use Rattle.discretise.proofs.GridLemmas.{flat_has, high_at, low_at}
 use Rattle.discretise.proofs.JoinLaws.{IsCellOfEnd, cell_of_end, cells_differ}
-use Rattle.discretise.proofs.JoinLemmas.{no_end}
 use Rattle.discretise.proofs.NetLemmas.{has_number, of_end, one_node}
 use Rattle.discretise.proofs.PickLaws.{picked_holds}
-use Rattle.discretise.proofs.RisingLaws.{RisesTo, rises_above, rises_both, rises_lower, rises_next, rises_picked, rises_row, rises_within}
-use Rattle.discretise.proofs.RowLemmas.{has_cases, has_first, has_later}
-use Rattle.discretise.proofs.SectionLemmas.{last_high}
+use Rattle.discretise.proofs.RisingLaws.{RisesTo, rises_above, rises_both, rises_next, rises_picked, rises_row, rises_within}
+use Rattle.discretise.proofs.RowLemmas.{has_cases}
 use Rattle.discretise.proofs.SoundLemmas.{IsSound, cell_here, here_cell}
 
 -- ---- candidates rise

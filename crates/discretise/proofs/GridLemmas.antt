@@ -1,31 +1,13 @@
 -- What the tracks on the grid are of the network, and which of their ends stand at a node.
-use Rattle.std.proofs.Common.{◌≡◌, ◌≢◌, ◌+◌, ◌-◌, ◌<◌, ◌≤◌, ◌⊎◌, inl, inr, ◌↔◌, ℕ, zero, suc, Bool, true, false, List, [], ◌∷◌, ◌++◌, length, get_or, Some, slice_get, refl, sym, ap, subst, ◌∙◌, arith}
-use Rattle.std.specs.Prelude.{◌==◌, if◌then◌else◌, All}
+use Rattle.std.proofs.Common.{◌≡◌, ◌⊎◌, inl, inr, ℕ, Bool, List, [], ◌∷◌, ◌++◌, sym, ap, subst, arith}
+use Rattle.std.specs.Prelude.{◌==◌, if◌then◌else◌}
 use Rattle.std.specs.List.{Contains, flat_map}
 use Rattle.std.proofs.lemmas.Bool.Decides.{eqb_tells}
-use Rattle.std.proofs.lemmas.List.Elements.{Contains-append_cases, Contains-append_left, Contains-append_right, Contains-get_or}
-use Rattle.std.proofs.lemmas.Option.{same_Some, slice_get_within, slice_get-get_or, get_or_from_slice_get}
-use Rattle.vss_lists.specs.Breaks.{HoldsOfEach}
-use Rattle.rail_net.specs.Parts.{EndsAt, IsNode, IsTrackOfSection, IsTrack, node_names, track_names}
-use Rattle.rail_net.specs.Borders.{IsBorderJoint, IsFree, IsJoint}
-use Rattle.rail_net.specs.Refusals.{IsNet}
-use Rattle.rail_net.specs.Sections.{IsOfOneSection}
-use Rattle.rail_net.specs.declared.parts.NodeKind.{NodeKind}
-use Rattle.rail_net.specs.declared.parts.NodeKind.TheVariants.{Joint}
-use Rattle.rail_net.specs.declared.parts.NodePart.{NodePart}
-use Rattle.rail_net.specs.declared.parts.TrackPart.{TrackPart}
-use Rattle.rail_net.specs.declared.parts.NetParts.{NetParts}
-use Rattle.rail_net.proofs.ListLaws.{contains_at, map_at, mapped_at, place_of}
-use Rattle.rail_net.proofs.ListingLemmas.{one_section}
-use Rattle.rail_net.proofs.NameLaws.{same_number}
-use Rattle.timetable.specs.declared.parts.Timetable.{Timetable}
-use Rattle.discretise.specs.Tracks.{AreGridTracks, AreLaid, IsGridTrack, no_track}
+use Rattle.std.proofs.lemmas.List.Elements.{Contains-append_cases, Contains-append_left, Contains-append_right}
 use Rattle.discretise.specs.Joins.{ends_at, ends_in, high_end, low_end}
-use Rattle.discretise.specs.Places.{AreFreeEnds, AreOfOneSection, AreOfSection, IsFreeJoint, track_of}
 use Rattle.discretise.specs.declared.tracks.GridTrack.{GridTrack}
 use Rattle.discretise.specs.declared.ends.TrackEnd.{TrackEnd}
 use Rattle.discretise.proofs.RowLemmas.{has_cases, has_first, has_later}
-use Rattle.discretise.proofs.TrackLemmas.{laid_at}
 
 -- the end of a track at the node: the low one where it begins there, the high one where it ends there
 pub record IsEndAt (node : ℕ) (g : GridTrack) (e : TrackEnd) : Type 0 where

@@ -1,9 +1,7 @@
 -- The parts of a scene keep every rule of an instance.
-use Rattle.std.proofs.Common.{◌≡◌, ◌+◌, ◌<◌, ◌≤◌, ◌^◌, ℕ, List, length, Some, slice_get, sym, subst, ap, ◌∙◌, arith}
+use Rattle.std.proofs.Common.{◌≡◌, ◌<◌, ◌≤◌, ℕ, List, length, Some, slice_get, sym, subst, arith}
 use Rattle.std.specs.Prelude.{All, slice_index_or}
-use Rattle.std.specs.List.{Contains}
 use Rattle.std.proofs.lemmas.Option.{slice_get-get_or}
-use Rattle.vss_lists.specs.Breaks.{HoldsOfEach}
 use Rattle.vss_lists.specs.Orders.{AreKept}
 use Rattle.cell_net.specs.Rules.{IsInstance}
 use Rattle.cell_net.specs.declared.parts.InstanceParts.{InstanceParts}

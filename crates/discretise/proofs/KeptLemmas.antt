@@ -1,16 +1,16 @@
 -- The nodes where borders of a network stand.
-use Rattle.std.proofs.Common.{◌≡◌, ◌≢◌, ◌+◌, ◌-◌, ◌*◌, ◌/◌, ◌<◌, ◌≤◌, ◌⊎◌, inl, inr, ◌↔◌, ℕ, zero, suc, Bool, true, false, IsTrue, List, [], ◌∷◌, ◌++◌, length, map, set, get_or, Some, slice_get, refl, sym, ap, subst, ◌∙◌, arith}
+use Rattle.std.proofs.Common.{◌≡◌, ◌+◌, ◌-◌, ◌*◌, ◌/◌, ◌<◌, ◌≤◌, inl, inr, ◌↔◌, ℕ, zero, suc, Bool, true, false, IsTrue, List, [], ◌∷◌, ◌++◌, length, map, set, Some, slice_get, refl, sym, ap, subst, ◌∙◌, arith}
 use Rattle.std.specs.Prelude.{if◌then◌else◌}
 use Rattle.std.specs.Int.{div_ceil}
-use Rattle.std.specs.List.{Contains, range_with_len}
+use Rattle.std.specs.List.{range_with_len}
 use Rattle.std.proofs.lemmas.Grind.{div_ceil_times}
 use Rattle.std.proofs.Math.Nat.{mul-div_cancel, lt_of_mul-lt-mul_right}
-use Rattle.std.proofs.lemmas.List.{length-map, length-set, map_push}
+use Rattle.std.proofs.lemmas.List.{length-set, map_push}
 use Rattle.std.proofs.lemmas.List.Elements.{Contains-append_left, Contains-push, Contains-push_cases}
-use Rattle.std.proofs.lemmas.Option.{same_Some, slice_get_within, slice_get-get_or}
+use Rattle.std.proofs.lemmas.Option.{same_Some}
 use Rattle.cell_net.specs.declared.ids.CandidateId.{CandidateId}
 use Rattle.cell_net.specs.declared.ids.NodeId.{NodeId}
-use Rattle.rail_net.specs.Parts.{IsNode, IsTrack, node_names, track_names}
+use Rattle.rail_net.specs.Parts.{IsNode, IsTrack}
 use Rattle.rail_net.specs.Borders.{IsBorderJoint, IsJoint, IsWithinTrack}
 use Rattle.rail_net.specs.Refusals.{IsNet}
 use Rattle.rail_net.specs.declared.parts.NodeKind.TheVariants.{Joint}
@@ -19,12 +19,12 @@ use Rattle.rail_net.specs.declared.parts.TrackPart.{TrackPart}
 use Rattle.rail_net.specs.declared.parts.BorderPart.{BorderPart}
 use Rattle.rail_net.specs.declared.parts.BorderPart.TheVariants as border
 use Rattle.rail_net.specs.declared.parts.NetParts.{NetParts}
-use Rattle.rail_net.proofs.ListLaws.{contains_at, map_at, mapped_at, place_of}
+use Rattle.rail_net.proofs.ListLaws.{map_at, place_of}
 use Rattle.rail_net.proofs.NameLaws.{same_number}
 use Rattle.timetable.specs.declared.parts.Timetable.{Timetable}
 use Rattle.discretise.specs.Picks.{Picks}
-use Rattle.discretise.specs.Tracks.{AreGridTracks, AreSmall, IsSmall, cut_total, no_track}
-use Rattle.discretise.specs.Places.{AreMarkedFor, IsCutAt, IsKeptPlace, IsNodeOfOne, StandsAt, candidate}
+use Rattle.discretise.specs.Tracks.{AreGridTracks, cut_total}
+use Rattle.discretise.specs.Places.{AreMarkedFor, IsKeptPlace, IsNodeOfOne, StandsAt, candidate}
 use Rattle.discretise.specs.Refusals.{AreWholeSteps}
 use Rattle.discretise.specs.declared.tracks.GridTrack.{GridTrack}
 use Rattle.discretise.proofs.ChainLemmas.{chained, lies_within}

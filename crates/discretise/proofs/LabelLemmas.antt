@@ -1,10 +1,9 @@
 -- The labels of a scene are those of its instance: names, none of which is another's.
-use Rattle.std.proofs.Common.{◌≡◌, ◌≢◌, ◌+◌, ◌-◌, ◌*◌, ◌/◌, ◌<◌, ◌≤◌, ◌⊎◌, inl, inr, ℕ, zero, suc, Bool, true, false, List, [], ◌∷◌, ◌++◌, length, map, get_or, Some, slice_get, refl, sym, ap, subst, ◌∙◌, arith}
-use Rattle.std.specs.Prelude.{All, AllPairs, if◌then◌else◌, slice_index_or}
+use Rattle.std.proofs.Common.{◌≡◌, ◌+◌, ◌-◌, ◌*◌, ◌/◌, ◌<◌, ◌⊎◌, inl, inr, ℕ, zero, Bool, true, false, List, [], ◌∷◌, ◌++◌, length, map, get_or, Some, slice_get, refl, sym, ap, subst, ◌∙◌, arith}
+use Rattle.std.specs.Prelude.{All, if◌then◌else◌}
 use Rattle.std.specs.List.{AllZip, Contains, flat_map, range_with_len}
-use Rattle.std.proofs.lemmas.List.{length-map, length-append}
-use Rattle.std.proofs.lemmas.List.Elements.{All-contains, All-map, Contains-append_cases, Contains-get_or}
-use Rattle.std.proofs.lemmas.List.FromFn.{length-map-range_with_len}
+use Rattle.std.proofs.lemmas.List.{length-map}
+use Rattle.std.proofs.lemmas.List.Elements.{All-contains, All-map}
 use Rattle.std.proofs.lemmas.Option.{same_Some, slice_get_within, slice_get-get_or, get_or_from_slice_get}
 use Rattle.std.proofs.Math.Nat.{mul-div_cancel}
 use Rattle.vss_names.specs.Names.{IsName}
@@ -19,26 +18,24 @@ use Rattle.cell_net.specs.declared.parts.InstanceParts.{InstanceParts}
 use Rattle.rail_net.specs.Parts.{IsNode, node_names, track_names}
 use Rattle.rail_net.specs.Refusals.{IsNet}
 use Rattle.rail_net.specs.Rules.{HasNewName}
-use Rattle.rail_net.specs.declared.parts.NodePart.{NodePart}
 use Rattle.rail_net.specs.declared.parts.TrackPart.{TrackPart}
 use Rattle.rail_net.specs.declared.parts.NetParts.{NetParts}
-use Rattle.rail_net.proofs.ListLaws.{contains_at, mapped_at, place_of}
+use Rattle.rail_net.proofs.ListLaws.{contains_at}
 use Rattle.rail_net.proofs.NameLaws.{same_number}
-use Rattle.timetable.specs.Timetables.{IsTimetable, IsTrainOf, train_names}
+use Rattle.timetable.specs.Timetables.{IsTimetable}
 use Rattle.timetable.specs.declared.parts.TrainPart.{TrainPart}
 use Rattle.timetable.specs.declared.parts.Timetable.{Timetable}
-use Rattle.discretise.specs.Picks.{Picks}
-use Rattle.discretise.specs.Tracks.{AreGridTracks, AreInRange, IsTrackInRange}
+use Rattle.discretise.specs.Tracks.{AreGridTracks}
 use Rattle.discretise.specs.Cells.{cell_labels, label_in, node}
 use Rattle.discretise.specs.Places.{AreFreeJoints, IsFreeJoint, candidates_on, cut_label, cut_labels, cuts_in, joint_label, labels_of_cuts, open_cuts, place_labels}
 use Rattle.discretise.specs.Scenes.{AreNames, AreParts}
 use Rattle.discretise.specs.declared.tracks.GridTrack.{GridTrack}
 use Rattle.discretise.proofs.CandidateLemmas.{candidates_rise}
-use Rattle.discretise.proofs.ChainLemmas.{IsPlaced, chained, placed, row_is, rows_length}
+use Rattle.discretise.proofs.ChainLemmas.{chained, placed, rows_length}
 use Rattle.discretise.proofs.NetLemmas.{has_number, one_node, part_of}
 use Rattle.discretise.proofs.PickLaws.{picked_holds}
 use Rattle.discretise.proofs.RestLemmas.{zip_at, zip_length}
-use Rattle.discretise.proofs.RisingLaws.{RisesTo, rises_one}
+use Rattle.discretise.proofs.RisingLaws.{rises_one}
 use Rattle.discretise.proofs.RowLemmas.{has_later}
 use Rattle.discretise.proofs.SoundLemmas.{cell_count}
 

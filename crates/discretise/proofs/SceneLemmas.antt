@@ -1,5 +1,5 @@
 -- What the making of a scene asks of the grid.
-use Rattle.std.proofs.Common.{◌≡◌, ◌+◌, ◌-◌, ◌<◌, ◌≤◌, ◌^◌, ℕ, zero, suc, List, [], ◌∷◌, length, get_or, map, sum_by, Some, slice_get, refl, sym, ap, subst, ◌∙◌, arith}
+use Rattle.std.proofs.Common.{◌≡◌, ◌+◌, ◌-◌, ◌<◌, ◌≤◌, ◌^◌, ℕ, zero, suc, List, [], ◌∷◌, length, get_or, map, Some, slice_get, refl, sym, ap, subst, ◌∙◌, arith}
 use Rattle.std.specs.Prelude.{All}
 use Rattle.std.specs.List.{AllZip, Contains, range_with_len}
 use Rattle.std.proofs.lemmas.List.Elements.{All-contains, Contains-get_or}
@@ -11,7 +11,6 @@ use Rattle.cell_net.specs.declared.ids.CandidateId.{CandidateId}
 use Rattle.cell_net.specs.declared.ids.NodeId.{NodeId}
 use Rattle.cell_net.specs.declared.trains.TrainSpec.{TrainSpec}
 use Rattle.cell_net.specs.declared.parts.InstanceParts.{InstanceParts}
-use Rattle.rail_net.specs.Passages.{IsAtNode}
 use Rattle.rail_net.specs.Refusals.{IsNet}
 use Rattle.rail_net.specs.Rules.{IsGoodLimit}
 use Rattle.rail_net.specs.declared.parts.NodeKind.TheVariants.{EndNode}
@@ -22,11 +21,10 @@ use Rattle.rail_net.proofs.ListLaws.{contains_at, map_at, there_is}
 use Rattle.timetable.specs.Timetables.{IsEndNode, IsTimetable, IsTrainOf}
 use Rattle.timetable.specs.declared.parts.TrainPart.{TrainPart}
 use Rattle.timetable.specs.declared.parts.Timetable.{Timetable}
-use Rattle.discretise.specs.Picks.{Picks}
 use Rattle.discretise.specs.Tracks.{AreGridTracks, AreLaid, cell_total, cut_total}
 use Rattle.discretise.specs.Joins.{AreAtNodes, AreEndsByNode, ends_at}
 use Rattle.discretise.specs.Places.{AreFreeJoints, IsFreeJoint, IsKeptPlace, candidate, candidates_on}
-use Rattle.discretise.specs.Trains.{HasItsEnds, HasOneEnd, IsGridTrain, IsTrainBetween, IsTrainOver}
+use Rattle.discretise.specs.Trains.{HasItsEnds, IsGridTrain, IsTrainBetween, IsTrainOver}
 use Rattle.discretise.specs.Refusals.{cut_rules}
 use Rattle.discretise.specs.Scenes.{AreParts}
 use Rattle.discretise.specs.declared.tracks.GridTrack.{GridTrack}

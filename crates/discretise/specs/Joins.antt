@@ -1,7 +1,6 @@
 -- Joins: at each cut, and where a passage leads over a node of the network.
 use Rattle.std.specs.Prelude.{◌≡◌, ◌<◌, ◌+◌, ◌-◌, ◌==◌, ℕ, if◌then◌else◌, List, [], ◌∷◌, ◌++◌, map, length, slice_index_or, slice_get, Some, All}
 use Rattle.std.specs.List.{flat_map, range_with_len}
-use Rattle.cell_net.specs.declared.cells.CellEnd.{CellEnd}
 use Rattle.cell_net.specs.declared.cells.End.TheVariants.{Low, High}
 use Rattle.cell_net.specs.declared.cells.JoinSpec.{JoinSpec}
 use Rattle.rail_net.specs.Passages.{HasPassage, IsAtNode}

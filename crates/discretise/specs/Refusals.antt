@@ -1,5 +1,5 @@
 -- The rules of the grid in their order, and which refusal tells the first that is broken.
-use Rattle.std.specs.Prelude.{◌≡◌, ◌≢◌, ◌<◌, ◌≤◌, ◌+◌, ◌-◌, ◌*◌, ℕ, if◌then◌else◌, List, [], ◌∷◌, ◌++◌, length, sum_by, ⊤, Option, None, Some, All}
+use Rattle.std.specs.Prelude.{◌≡◌, ◌≢◌, ◌<◌, ◌≤◌, ◌+◌, ◌*◌, ℕ, List, [], ◌∷◌, ◌++◌, length, sum_by, ⊤, Option, None, Some, All}
 use Rattle.cell_net.specs.declared.limits.TheConstants.{ADVANCE, CANDIDATES, CELLS, LENGTH, STEPS, TRAINS}
 use Rattle.vss_lists.specs.Orders.{OrderRule, IsFirstBroken, rule, rule_of_each}
 use Rattle.rail_net.specs.declared.parts.TrackPart.{TrackPart}

@@ -1,5 +1,5 @@
 -- The scene of a network and a timetable: the instance that they are cut into, and its labels; or why there is none.
-use Rattle.std.specs.Prelude.{◌≡◌, ◌+◌, ℕ, List, length, map, Result, Ok, Err}
+use Rattle.std.specs.Prelude.{◌≡◌, ◌+◌, ℕ, List, length, Result, Ok, Err}
 use Rattle.std.specs.List.{AllZip}
 use Rattle.vss_lists.specs.Orders.{AreKept}
 use Rattle.cell_net.specs.declared.labels.Labels.{Labels}

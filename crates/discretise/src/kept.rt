@@ -1,6 +1,6 @@
 //! The candidates where a border is kept.
 
-ghost use Rattle.std.specs.Prelude.{◌≡◌, ◌<◌, ◌≤◌, ◌+◌, ◌-◌, ◌^◌, ◌++◌, ◌∷◌, [], if◌then◌else◌, ◌↔◌, ℕ, false, true, IsTrue, All, IfOk, OnOk, Some, Contains, length, slice_get, slice_index_or, slice_set};
+ghost use Rattle.std.specs.Prelude.{◌≡◌, ◌<◌, ◌+◌, ◌-◌, ◌^◌, ◌++◌, ◌∷◌, [], if◌then◌else◌, false, true, All, IfOk, OnOk, Some, length};
 ghost use Rattle.vss_lists.specs.Breaks.{HoldsOfEach};
 ghost use Rattle.rail_net.specs.Borders.{IsBorderJoint, IsWithinTrack, StandsWell};
 ghost use Rattle.rail_net.specs.Parts.{IsNode};

@@ -1,11 +1,7 @@
 //! The places where a virtual border may stand, their names, and which of them are kept.
 
-ghost use Rattle.std.specs.Prelude.{◌≡◌, ◌≢◌, ◌<◌, ◌≤◌, ◌+◌, ◌^◌, ◌++◌, ◌↔◌, ◌∷◌, [], if◌then◌else◌, IsTrue, true, All, List, IfOk, OnOk, Some, length, map, slice_get, slice_set, slice_index_or};
-ghost use Rattle.std.specs.List.{flat_map, range_with_len};
-ghost use Rattle.cell_net.specs.declared.limits.TheConstants.{CELLS};
-ghost use Rattle.rail_net.specs.Parts.{node_names};
+ghost use Rattle.std.specs.Prelude.{◌≡◌, ◌<◌, ◌+◌, ◌++◌, ◌↔◌, ◌∷◌, [], if◌then◌else◌, IsTrue, true, All, IfOk, OnOk, Some, length, map};
 ghost use Rattle.rail_net.specs.declared.parts.NodeKind.TheVariants.{Joint};
-ghost use Rattle.timetable.specs.Timetables.{IsTimetable};
 ghost use Rattle.discretise.specs.Rounding.{HasSteps};
 ghost use Rattle.discretise.specs.Tracks.{AreGridTracks, AreInRange, AreSmall, IsSmall};
 ghost use Rattle.discretise.specs.Joins.{AreEndsByNode};

@@ -1,5 +1,5 @@
 //! A conflict: one clause is learned, logged and added, and the trail goes back.
-ghost use Rattle.std.specs.Prelude.{◌≡◌, ◌≢◌, ◌^◌, ◌-◌, ◌+◌, ◌<◌, ◌++◌, ◌∷◌, [], false, length, IfOk, OnOk, OnErr};
+ghost use Rattle.std.specs.Prelude.{◌≡◌, ◌^◌, ◌-◌, ◌+◌, ◌<◌, false, length, IfOk, OnOk, OnErr};
 ghost use Rattle.derivation_log.specs.Steps.{derived};
 ghost use Rattle.sat_core.specs.Derivation.{adds};
 ghost use Rattle.plain_solver.specs.Plain.{IsFalseClause};

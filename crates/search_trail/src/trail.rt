@@ -1,5 +1,5 @@
 //! The trail, and its calls.
-ghost use Rattle.std.specs.Prelude.{◌≡◌, ◌+◌, ◌-◌, ◌*◌, ◌<◌, ◌≤◌, [], ◌∷◌, ◌++◌, length, IfOk, IfSome, IfNone, Any, All, slice_index_or, min, ◌≢◌, None, MatchOption};
+ghost use Rattle.std.specs.Prelude.{◌≡◌, ◌+◌, ◌-◌, ◌*◌, ◌<◌, ◌≤◌, [], ◌∷◌, ◌++◌, length, IfOk, Any, All, slice_index_or, min, ◌≢◌, None, MatchOption};
 ghost use Rattle.sat_core.specs.Clauses.{IsOver};
 ghost use Rattle.sat_core.specs.Fresh.{IsOpen};
 ghost use Rattle.sat_core.specs.Hints.{is_known};

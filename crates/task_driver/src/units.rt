@@ -4,7 +4,7 @@ ghost use Rattle.border_counter.specs.Counter.{not_at_least_lit};
 ghost use Rattle.sat_core.specs.Clauses.{IsOver};
 ghost use Rattle.sat_core.specs.Search.{gives, units_of};
 ghost use Rattle.solver_face.specs.Solving.{IsSound, numbers_used};
-ghost use Rattle.task_driver.specs.BoundUnits.{mark_in, order_hints};
+ghost use Rattle.task_driver.specs.BoundUnits.{mark_in};
 
 use clause_encoder::VarMap;
 use log_rebase::UnitMark;

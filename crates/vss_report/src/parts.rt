@@ -1,5 +1,5 @@
 //! The parts of lines: a name, or words with a name or a number behind them.
-ghost use Rattle.std.specs.Prelude.{◌≡◌, ◌++◌, ◌∷◌, [], false, decimal, IfOk, IfErr};
+ghost use Rattle.std.specs.Prelude.{◌≡◌, ◌++◌, ◌∷◌, false, decimal, IfOk, IfErr};
 ghost use Rattle.vss_names.specs.Names.{IsName, is_name_byte as is_plain_byte};
 ghost use Rattle.vss_report.specs.Readings.{named, behind};
 ghost use Rattle.vss_text.specs.Numbers.{IsShort, ended};
