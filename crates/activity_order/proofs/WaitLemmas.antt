@@ -10,7 +10,7 @@ use Rattle.sat_core.specs.Hints.{is_known}
 use Rattle.sat_core.specs.Fresh.{IsOpen}
 use Rattle.sat_core.proofs.OpenLaws.{place_of_known, is_known-at, true_is_not_false, one_variable}
 use Rattle.search_trail.specs.declared.entry.Entry.{Entry}
-use Rattle.search_trail.specs.Trails.{TrailParts, IsTrail, IsCut, known_of}
+use Rattle.search_trail.specs.Trails.{TrailParts, IsTrail, IsCutBack, known_of}
 use Rattle.activity_order.specs.Choices.{OrderParts, IsFirst, denial, OpenOnesWait, IsNextDecision, NoneIsOpen}
 
 abbrev as_number : Bool → ℕ
@@ -88,7 +88,7 @@ known_front entries size lit within unknown known =
     ]
 
 -- each variable whose literal is gone waits
-pub wait_cut : (order : OrderParts) (t later : TrailParts) (level : ℕ) → OpenOnesWait order t → All (λ e. level < e.level → get_or order.waits (e.lit.var.0 - 1) false ≡ true) t.entries → later.vars ≡ t.vars → IsCut level t.entries later.entries → OpenOnesWait order later
+pub wait_cut : (order : OrderParts) (t later : TrailParts) (level : ℕ) → OpenOnesWait order t → All (λ e. level < e.level → get_or order.waits (e.lit.var.0 - 1) false ≡ true) t.entries → later.vars ≡ t.vars → IsCutBack level t.entries later.entries → OpenOnesWait order later
 wait_cut order t later level wait back vars cut = record {
   same_vars = wait.same_vars ∙ sym vars;
   wait = λ place is_open.

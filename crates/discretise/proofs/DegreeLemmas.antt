@@ -17,14 +17,14 @@ use Rattle.rail_net.proofs.ListingLemmas.{same_test}
 use Rattle.rail_net.proofs.NameLaws.{same_number}
 use Rattle.timetable.specs.declared.parts.Timetable.{Timetable}
 use Rattle.discretise.specs.Tracks.{AreGridTracks, AreLaid}
-use Rattle.discretise.specs.Joins.{ends_at, ends_in, high_end, low_end}
+use Rattle.discretise.specs.Joins.{ends_at, track_ends_at, high_end, low_end}
 use Rattle.discretise.specs.declared.tracks.GridTrack.{GridTrack}
 
 -- 1 for what is so
 abbrev pub one_if : Bool → ℕ
 one_if b = cond b 1 0
 
-ends_in_count : (node : ℕ) (g : GridTrack) → length (ends_in node g) ≡ one_if (g.from == node) + one_if (g.to == node)
+ends_in_count : (node : ℕ) (g : GridTrack) → length (track_ends_at node g) ≡ one_if (g.from == node) + one_if (g.to == node)
 ends_in_count node g = go (g.from == node) (g.to == node)
   where
     go : (a b : Bool) → length ((if a then low_end g ∷ [] else []) ++ (if b then high_end g ∷ [] else [])) ≡ one_if a + one_if b
@@ -47,7 +47,7 @@ module _ (p : NetParts) (t : Timetable) (net : IsNet p) (node : ℕ) (name : Lis
   laid_count number first cut (x ∷ parts) [] laid = absurd laid
   laid_count number first cut (x ∷ parts) (g ∷ gs) laid =
       let rest = laid_count (number + 1) (first + g.count) (cut + (g.count - 1)) parts gs laid.1 in
-      let both : length (ends_at (g ∷ gs) node) ≡ length (ends_in node g) + length (ends_at gs node) = length-append (ends_in node g) (ends_at gs node) in
+      let both : length (ends_at (g ∷ gs) node) ≡ length (track_ends_at node g) + length (ends_at gs node) = length-append (track_ends_at node g) (ends_at gs node) in
       let from : one_if (g.from == node) ≡ one_if (bytes_eq x.from name) = ap one_if (name_test g.from x.from laid.0.from) in
       let to : one_if (g.to == node) ≡ one_if (bytes_eq x.to name) = ap one_if (name_test g.to x.to laid.0.to) in
       let begins : count_by (λ (y : TrackPart). bytes_eq y.from name) (x ∷ parts) ≡ one_if (bytes_eq x.from name) + count_by (λ (y : TrackPart). bytes_eq y.from name) parts = sum_by-cons (λ (y : TrackPart). one_if (bytes_eq y.from name)) x parts in

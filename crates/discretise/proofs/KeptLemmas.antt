@@ -24,7 +24,7 @@ use Rattle.rail_net.proofs.NameLaws.{same_number}
 use Rattle.timetable.specs.declared.parts.Timetable.{Timetable}
 use Rattle.discretise.specs.Picks.{Picks}
 use Rattle.discretise.specs.Tracks.{AreGridTracks, cut_total}
-use Rattle.discretise.specs.Places.{AreMarkedFor, IsKeptPlace, IsNodeOfOne, StandsAt, candidate}
+use Rattle.discretise.specs.Places.{AreMarkedFor, IsKeptPlace, IsNodeOfOne, StandsAtNode, candidate}
 use Rattle.discretise.specs.Refusals.{AreWholeSteps}
 use Rattle.discretise.specs.declared.tracks.GridTrack.{GridTrack}
 use Rattle.discretise.proofs.ChainLemmas.{chained, lies_within}
@@ -87,7 +87,7 @@ cut_well p t gs net all positive track at_m number w whole is =
 
 -- a node stands for one border, and a cut or a joint is the node of a border
 module _ (p : NetParts) (t : Timetable) (gs : List GridTrack) (net : IsNet p) (all : AreGridTracks p t gs) where
-  pub one_place : (part : BorderPart) (i j : ℕ) → StandsAt p t gs part i → StandsAt p t gs part j → i ≡ j
+  pub one_place : (part : BorderPart) (i j : ℕ) → StandsAtNode p t gs part i → StandsAtNode p t gs part j → i ≡ j
   one_place (border.Cut track at_m) i j one other =
       let k = place_of gs one.g one.there in
       let l = place_of gs other.g other.there in
@@ -98,18 +98,18 @@ module _ (p : NetParts) (t : Timetable) (gs : List GridTrack) (net : IsNet p) (a
   one_place (border.Joint name) i j one other = same_number (λ (n : NodePart). n.name) p.nodes net.new_nodes i j name one other
 
   -- one more border is marked
-  pub marked_more : (parts : List BorderPart) (part : BorderPart) (nodes number : ℕ) (marks : List Bool) → AreMarkedFor p t gs parts nodes marks → number < nodes → StandsAt p t gs part number
+  pub marked_more : (parts : List BorderPart) (part : BorderPart) (nodes number : ℕ) (marks : List Bool) → AreMarkedFor p t gs parts nodes marks → number < nodes → StandsAtNode p t gs part number
       → AreMarkedFor p t gs (parts ++ part ∷ []) nodes (set marks number true)
   marked_more parts part nodes number marks so_far within stands = record {
     count = length-set marks number true ∙ so_far.count;
     each = λ k mark is. elim (mark_cases marks number k mark (subst (λ n. number < n) (sym so_far.count) within) is) [
-      | inl here ↦ (λ told. record { part = part; listed = Contains-push parts part; stands = subst (StandsAt p t gs part) (sym here.0) stands }, λ has. here.1)
+      | inl here ↦ (λ told. record { part = part; listed = Contains-push parts part; stands = subst (StandsAtNode p t gs part) (sym here.0) stands }, λ has. here.1)
       | inr other ↦
           let tells = so_far.each k mark other.1 in (
             λ told. let one = tells.0 told in record { part = one.part; listed = Contains-append_left parts (part ∷ []) one.part one.listed; stands = one.stands },
             λ has. elim (Contains-push_cases parts part has.part has.listed) [
               | inl before ↦ tells.1 (record { part = has.part; listed = before; stands = has.stands })
-              | inr same ↦ absurd (other.0 (one_place part k number (subst (λ b. StandsAt p t gs b k) (sym same) has.stands) stands))
+              | inr same ↦ absurd (other.0 (one_place part k number (subst (λ b. StandsAtNode p t gs b k) (sym same) has.stands) stands))
             ],
           )
     ];

@@ -18,7 +18,7 @@ use Rattle.rail_net.proofs.NameLaws.{same_number}
 use Rattle.timetable.specs.declared.parts.Timetable.{Timetable}
 use Rattle.discretise.specs.Tracks.{AreGridTracks, AreInRange, AreLaid, IsGridTrack, IsTrackInRange, no_track}
 use Rattle.discretise.specs.Joins.{ends_at, high_end, low_end}
-use Rattle.discretise.specs.Places.{AreFreeEnds, AreOfOneSection, AreOfSection, IsFreeJoint, track_of}
+use Rattle.discretise.specs.Places.{AreFreeEnds, AreEndsOfOneSection, AreOfSection, IsFreeJoint, track_of}
 use Rattle.discretise.specs.declared.tracks.GridTrack.{GridTrack}
 use Rattle.discretise.specs.declared.ends.TrackEnd.{TrackEnd}
 use Rattle.discretise.proofs.GridLemmas.{IsEndAt, end_has, high_at, its_number, low_at}
@@ -131,7 +131,7 @@ module _ (p : NetParts) (t : Timetable) (gs : List GridTrack) (net : IsNet p) (a
         ∙ (ap (λ (g : GridTrack). g.section) (sym (track_is n k one.0 one.1)) ∙ All-contains (λ e. (track_of gs e).section ≡ section) (ends_at gs n) one.0 each one.1.there)
 
     free_is : AreFreeEnds gs part.kind (ends_at gs n) → IsFreeJoint p n
-    unfolding IsJoint IsOfOneSection IsFree AreOfOneSection
+    unfolding IsJoint IsOfOneSection IsFree AreEndsOfOneSection
     free_is free = record {
       name = part.name;
       is_node = its_name;
@@ -148,7 +148,7 @@ module _ (p : NetParts) (t : Timetable) (gs : List GridTrack) (net : IsNet p) (a
     }
 
     is_free : IsFreeJoint p n → AreFreeEnds gs part.kind (ends_at gs n)
-    unfolding IsJoint IsOfOneSection IsFree AreOfOneSection
+    unfolding IsJoint IsOfOneSection IsFree AreEndsOfOneSection
     is_free free =
         let name : free.name ≡ part.name = one_name n free.name part.name free.is_node its_name in
         let whole : IsBorderJoint p part.name = subst (IsBorderJoint p) name free.candidate in

@@ -10,7 +10,7 @@ use Rattle.cell_net.specs.declared.ids.NodeId.{NodeId}
 use Rattle.cell_net.specs.declared.cells.CellSpec.{CellSpec}
 use Rattle.cell_net.specs.declared.parts.InstanceParts.{InstanceParts}
 use Rattle.rail_net.specs.Parts.{EndsAt, IsNode, IsTrackOfSection}
-use Rattle.rail_net.specs.Sections.{Adjoin, IsConnected as AreJoinedTracks}
+use Rattle.rail_net.specs.Sections.{Adjoin, HangsTogether as AreJoinedTracks}
 use Rattle.rail_net.specs.Refusals.{IsNet}
 use Rattle.rail_net.specs.declared.parts.TrackPart.{TrackPart}
 use Rattle.rail_net.specs.declared.parts.NetParts.{NetParts}
@@ -170,7 +170,7 @@ module _ (p : NetParts) (t : Timetable) (gs : List GridTrack) (i : InstanceParts
         of_section = subst (λ n. IsTrackOfSection p n at.k) same its.1.own.section;
       }
 
-  pub connected : (section : ℕ) → IsConnected i section
+  pub connected : (section : ℕ) → HangsTogether i section
   unfolding AreJoinedTracks
   connected section e f e_in f_in =
       let one = of_track section e e_in in

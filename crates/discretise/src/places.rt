@@ -6,7 +6,7 @@ ghost use Rattle.discretise.specs.Rounding.{HasSteps};
 ghost use Rattle.discretise.specs.Tracks.{AreGridTracks, AreInRange, AreSmall, IsSmall};
 ghost use Rattle.discretise.specs.Joins.{AreEndsByNode};
 ghost use Rattle.discretise.specs.Cells.{node};
-ghost use Rattle.discretise.specs.Places.{AreFreeJoints, AreFreeEnds, AreOfOneSection, AreOfSection, AreOpenEnds, candidates_on as candidates_of_tracks, cuts_in, joint_label, labels_of_cuts, place_labels as labels_of_places};
+ghost use Rattle.discretise.specs.Places.{AreFreeJoints, AreFreeEnds, AreEndsOfOneSection, AreOfSection, AreOpenEnds, nodes_of_candidates as candidates_of_tracks, cuts_in, joint_label, labels_of_cuts, place_labels as labels_of_places};
 ghost use Rattle.discretise.specs.declared.ends.TrackEnd.{TrackEnd};
 
 use crate::ends::TrackEnd;
@@ -76,7 +76,7 @@ fn are_open(tracks: &[GridTrack], ends: &[TrackEnd]) -> bool
 /// Whether the tracks of all these ends are of the section of the first of them.
 fn are_of_one_section(tracks: &[GridTrack], ends: &[TrackEnd]) -> bool
     requires { All (λ e. e.track < length tracks.now) ends.now }
-    ensures { IsTrue result ↔ AreOfOneSection tracks.now ends.now }
+    ensures { IsTrue result ↔ AreEndsOfOneSection tracks.now ends.now }
 {
     let Some(first) = ends.first() else {
         return true;

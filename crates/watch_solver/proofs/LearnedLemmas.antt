@@ -13,7 +13,7 @@ use Rattle.sat_core.specs.Hints.{NumberedClause, is_known}
 use Rattle.sat_core.specs.Search.{Event, derives, after_event, IsLearned, log_of}
 use Rattle.sat_core.proofs.SearchLaws.{log_of-append}
 use Rattle.search_trail.specs.declared.entry.Entry.{Entry}
-use Rattle.search_trail.specs.Trails.{TrailParts, IsTrail, IsCut, known_of, up_to, assigned}
+use Rattle.search_trail.specs.Trails.{TrailParts, IsTrail, IsCutBack, known_of, up_to, assigned}
 use Rattle.search_trail.proofs.TrailLaws.{IsTrail-cut}
 use Rattle.search_trail.proofs.LevelLaws.{up_to-same, all_up_to, up_to-from}
 use Rattle.conflict_learn.specs.Learning.{IsLearnedFrom, IsAsserting}
@@ -34,13 +34,13 @@ use Rattle.watch_solver.proofs.SeatLemmas.{IsSeated, short_grown, conflict_grown
 use Rattle.watch_solver.proofs.StateLemmas.{formula_alike, formula_inserted}
 
 -- ---- what was learned, after going back to its level
-pub known_cut : (t t1 : TrailParts) (level : ℕ) → IsCut level t.entries t1.entries → known_of t1.entries ≡ up_to level t.entries
+pub known_cut : (t t1 : TrailParts) (level : ℕ) → IsCutBack level t.entries t1.entries → known_of t1.entries ≡ up_to level t.entries
 known_cut t t1 level cut = sym (all_up_to level t1.entries cut.kept) ∙ up_to-same level level t.entries t1.entries cut (omega arith)
 
-pub unit_cut : (t t1 : TrailParts) (lits : List Lit) (level : ℕ) (head : IsAsserting t lits level) → IsTrail t → IsCut level t.entries t1.entries → IsUnitUnder (known_of t1.entries) lits head.lit
+pub unit_cut : (t t1 : TrailParts) (lits : List Lit) (level : ℕ) (head : IsAsserting t lits level) → IsTrail t → IsCutBack level t.entries t1.entries → IsUnitUnder (known_of t1.entries) lits head.lit
 unit_cut t t1 lits level head laws cut = subst (λ known. IsUnitUnder known lits head.lit) (sym (known_cut t t1 level cut)) (IsUnitUnder-learned t lits level head laws)
 
-entry_cut : (t t1 : TrailParts) (level place : ℕ) (lit : Lit) → IsCut level t.entries t1.entries → t1.present ≡ level → place < length t.entries → ((d : Entry) → ((get_or t.entries place d).lit ≡ lit) × ((get_or t.entries place d).level ≡ level)) → Any (λ e. (e.lit ≡ lit) × (e.level ≡ t1.present)) t1.entries
+entry_cut : (t t1 : TrailParts) (level place : ℕ) (lit : Lit) → IsCutBack level t.entries t1.entries → t1.present ≡ level → place < length t.entries → ((d : Entry) → ((get_or t.entries place d).lit ≡ lit) × ((get_or t.entries place d).level ≡ level)) → Any (λ e. (e.lit ≡ lit) × (e.level ≡ t1.present)) t1.entries
 entry_cut t t1 level place lit cut present within at =
     let d : Entry = record { lit = lit; reason = None; level = 0 } in
     let long : length t1.entries ≡ cut.size = ap length cut.front ∙ length-take-le cut.size t.entries cut.within in
@@ -52,7 +52,7 @@ entry_cut t t1 level place lit cut present within at =
           (place, e, omega (arith, kept, long), same, ((at d).0, (at d).1 ∙ sym present))
     ]
 
-latest_cut : (t t1 : TrailParts) (level : ℕ) (lits : List Lit) (head : IsAsserting t lits level) → IsCut level t.entries t1.entries → t1.present ≡ level → 2 ≤ length lits → Any (λ other. Any (λ e. (e.lit ≡ negated other) × (e.level ≡ t1.present)) t1.entries) lits
+latest_cut : (t t1 : TrailParts) (level : ℕ) (lits : List Lit) (head : IsAsserting t lits level) → IsCutBack level t.entries t1.entries → t1.present ≡ level → 2 ≤ length lits → Any (λ other. Any (λ e. (e.lit ≡ negated other) × (e.level ≡ t1.present)) t1.entries) lits
 latest_cut t t1 level lits head cut present many =
     subst (λ ls. Any (λ other. Any (λ e. (e.lit ≡ negated other) × (e.level ≡ t1.present)) t1.entries) ls) (sym head.is)
     (elim head.greatest [
@@ -67,7 +67,7 @@ latest_cut t t1 level lits head cut present many =
           (suc any.0, any.1, omega (arith, any.2), any.3, entry_cut t t1 level e.0 (negated any.1) cut present e.2 (λ d. (ap (λ (x : Entry). x.lit) (get_or_default t.entries e.0 d e.1 e.2 ∙ e.3) ∙ e.4.0, ap (λ (x : Entry). x.level) (get_or_default t.entries e.0 d e.1 e.2 ∙ e.3) ∙ e.4.1)))
     ])
 
-pub watchable_cut : (t t1 : TrailParts) (lits : List Lit) (hints : List ClauseId) (live : List NumberedClause) (level : ℕ) → IsTrail t → IsLearnedFrom live t lits hints level → lits ≢ [] → IsCut level t.entries t1.entries → t1.present ≡ level → 2 ≤ length lits → HasTwoNotFalse (known_of t1.entries) lits ⊎ IsUnitNow t1 lits
+pub watchable_cut : (t t1 : TrailParts) (lits : List Lit) (hints : List ClauseId) (live : List NumberedClause) (level : ℕ) → IsTrail t → IsLearnedFrom live t lits hints level → lits ≢ [] → IsCutBack level t.entries t1.entries → t1.present ≡ level → 2 ≤ length lits → HasTwoNotFalse (known_of t1.entries) lits ⊎ IsUnitNow t1 lits
 watchable_cut t t1 lits hints live level laws learned some cut present many = elim (cases_eq t.present 0) [
   | inl bottom ↦ absurd (some (learned.at_zero bottom))
   | inr above ↦
@@ -75,7 +75,7 @@ watchable_cut t t1 lits hints live level laws learned some cut present many = el
       inr (record { lit = head.lit; unit = unit_cut t t1 lits level head laws cut; latest = latest_cut t t1 level lits head cut present many })
 ]
 
-pub first_unit : (t t1 : TrailParts) (lits : List Lit) (hints : List ClauseId) (live : List NumberedClause) (level : ℕ) (lit : Lit) → IsTrail t → IsLearnedFrom live t lits hints level → lits ≢ [] → get_or lits 0 lit ≡ lit → IsCut level t.entries t1.entries → IsUnitUnder (known_of t1.entries) lits lit
+pub first_unit : (t t1 : TrailParts) (lits : List Lit) (hints : List ClauseId) (live : List NumberedClause) (level : ℕ) (lit : Lit) → IsTrail t → IsLearnedFrom live t lits hints level → lits ≢ [] → get_or lits 0 lit ≡ lit → IsCutBack level t.entries t1.entries → IsUnitUnder (known_of t1.entries) lits lit
 first_unit t t1 lits hints live level lit laws learned some is cut = elim (cases_eq t.present 0) [
   | inl bottom ↦ absurd (some (learned.at_zero bottom))
   | inr above ↦
@@ -147,7 +147,7 @@ refuted_state s n id lits hints level state open_yet number none learned store g
     )
 
 -- a clause that isn't empty
-clash_learned : (old : Option ClauseId) (id : ClauseId) (lits : List Lit) (lit : Lit) (live more : List NumberedClause) (t t1 later : TrailParts) (level : ℕ) → IsInserted id lits live more → 0 < t.present → IsCut level t.entries t1.entries → t1.present ≡ level → later ≡ assigned t1 lit id → (length lits < 2 → level ≡ 0) → get_or lits 0 lit ≡ lit → lits ≢ [] → IsTrail later → ClashTells old live t → ClashTells old more later
+clash_learned : (old : Option ClauseId) (id : ClauseId) (lits : List Lit) (lit : Lit) (live more : List NumberedClause) (t t1 later : TrailParts) (level : ℕ) → IsInserted id lits live more → 0 < t.present → IsCutBack level t.entries t1.entries → t1.present ≡ level → later ≡ assigned t1 lit id → (length lits < 2 → level ≡ 0) → get_or lits 0 lit ≡ lit → lits ≢ [] → IsTrail later → ClashTells old live t → ClashTells old more later
 clash_learned (Some other) id lits lit live more t t1 later level inserted above cut present is bottom first some laws tells = absurd (omega (arith, above, tells.1))
 clash_learned None id lits lit live more t t1 later level inserted above cut present is bottom first some laws tells =
     AreShortTrue-inserted id lits live more later
@@ -180,7 +180,7 @@ learned_above live t lits hints level learned some = elim (cases_eq t.present 0)
 
 pub learned_state : (s n : State) (t1 : TrailParts) (id : ClauseId) (lits : List Lit) (hints : List ClauseId) (level : ℕ) (lit : Lit) → IsWatchState s → s.refuted ≡ false → id.0 ≡ s.last + 1 → lits ≢ [] → get_or lits 0 lit ≡ lit → IsLearnedFrom s.store.live s.trail lits hints level
     → n.store.vars ≡ s.store.vars → IsInserted id lits s.store.live n.store.live → n.given ≡ s.given → n.last ≡ s.last + 1 → n.history ≡ s.history ++ derives (adds id lits hints) ∷ [] → n.refuted ≡ s.refuted → n.clash ≡ s.clash → n.drop_at ≡ s.drop_at
-    → n.space ≡ s.space → length n.valuation.values ≡ length s.valuation.values → length n.stamps.items ≡ length s.stamps.items → FitsTrail n.store n.trail → OpenOnesWait n.order t1 → IsCut level s.trail.entries t1.entries → t1.present ≡ level → n.trail ≡ assigned t1 lit id → IsWatchState n × IsLearnedStep s n
+    → n.space ≡ s.space → length n.valuation.values ≡ length s.valuation.values → length n.stamps.items ≡ length s.stamps.items → FitsTrail n.store n.trail → OpenOnesWait n.order t1 → IsCutBack level s.trail.entries t1.entries → t1.present ≡ level → n.trail ≡ assigned t1 lit id → IsWatchState n × IsLearnedStep s n
 learned_state s n t1 id lits hints level lit state open_yet number some first learned vars inserted given last history refuted same_clash place space values stamps fits waiting cut present assigned_is =
     let run : IsRunning s = state.running open_yet in
     let old : Solving = watch_solving s false in
