@@ -12,3 +12,4 @@ mod FanLemmas
 mod SearchLemmas
 mod GapLaws
 mod MarkLemmas
+mod SpanLemmas

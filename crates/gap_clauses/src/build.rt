@@ -7,6 +7,7 @@ ghost use Rattle.gap_clauses.specs.Fans.{AreRows};
 ghost use Rattle.gap_clauses.specs.Gaps.{AreGaps};
 ghost use Rattle.gap_clauses.specs.Searched.{AreSearchedBelow, IsNoHigher};
 
+use crate::candidates::CandidateNodes;
 use crate::fan::{Fan, Stop};
 use crate::gaps::Gaps;
 use crate::neighbours::neighbours_of;
@@ -61,7 +62,7 @@ fn kept(alloc: Global, inst: &Instance, fans: Vec<Fan>) -> Result<Gaps, GapRefus
     ensures few { IfOk result (λ _. (section : ℕ) → ¬ IsCrowded inst.now section) }
     ensures refusal { IfErr result (IsGapRefusal inst.now) }
 {
-    match Vec::from_slice(alloc, inst.parts().candidates.as_slice()) {
+    match CandidateNodes::build(alloc, inst.parts().candidates.as_slice()) {
         Ok(candidates) => Ok(Gaps { candidates, fans }),
         Err(_) => Err(GapRefusal::Memory),
     }

@@ -2,9 +2,11 @@
 ghost use Rattle.std.specs.Prelude.{◌≡◌, ◌<◌, ◌≤◌, ◌++◌, ◌∷◌, [], All, OnErr, OnOk, false, length, slice_index_or};
 ghost use Rattle.gap_clauses.specs.Fans.{has_cell, has_node, walk_at};
 ghost use Rattle.gap_clauses.specs.Searched.{AreCandidateNodes, AreMarks};
+ghost use Rattle.gap_clauses.specs.Spans.{IsSpanOf};
 ghost use Rattle.gap_clauses.specs.Walks.{Step, end_of};
 
-use crate::marks::mark_at;
+use crate::candidates::CandidateNodes;
+use crate::marks::{Span, mark_at};
 use cell_net::{CellId, NodeId};
 use std::alloc::{AllocError, Global};
 use std::marker::Model;
@@ -115,20 +117,26 @@ impl WalkTree {
         false
     }
 
-    /// Marks each of the candidates, of these nodes, that is at a node of the walk at that place; linear
-    /// in its steps, up to a search.
-    pub(crate) fn mark(&self, place: usize, candidates: &[NodeId], marks: &mut [bool])
+    /// Marks each of the candidates that is at a node of the walk at that place, and tells from which one
+    /// to which one marks stand; linear in its steps, where nodes are looked up.
+    pub(crate) fn mark(&self, place: usize, candidates: &CandidateNodes, marks: &mut [bool]) -> Span
         requires within { place < length self.now }
         requires nodes { AreCandidateNodes candidates.now }
         requires few { length candidates.now ≤ length marks.old }
         requires none { All (λ m. m ≡ false) marks.old }
-        ensures { AreMarks candidates.now (walk_at self.now place) marks.new }
+        ensures marks { AreMarks candidates.now (walk_at self.now place) marks.new }
+        ensures span { IsSpanOf (length candidates.now) marks.new result }
     {
+        let mut span = Span {
+            low: candidates.len(),
+            end: 0,
+        };
         let mut at = place;
         while at > 0 {
             let branch = self.branches[at - 1];
-            mark_at(branch.node, candidates, marks);
+            mark_at(branch.node, candidates, marks, &mut span);
             at = branch.before as usize;
         }
+        span
     }
 }
