@@ -13,7 +13,7 @@ use Rattle.cell_net.specs.declared.ids.CellId.{CellId}
 use Rattle.cell_net.specs.declared.ids.NodeId.{NodeId}
 use Rattle.cell_net.specs.declared.parts.InstanceParts.{InstanceParts}
 use Rattle.gap_clauses.specs.Fans.{AreRows, behind, ends_over, has_cell, has_node, visits}
-use Rattle.gap_clauses.specs.Walks.{Step, IsWalkFrom, Leads, Shares, end_of, step_cells, step_nodes}
+use Rattle.gap_clauses.specs.Walks.{Step, IsWalkFrom, Leads, SharesNode, end_of, step_cells, step_nodes}
 use Rattle.vss_rows.proofs.JoinedLaws.{AllPairs-tail, AllPairs-head}
 use Rattle.gap_clauses.proofs.ListLemmas.{in_tail}
 use Rattle.gap_clauses.proofs.OverLaws.{behind_is, end_among}
@@ -81,8 +81,8 @@ record TwoMeet (p : InstanceParts) (c : CellId) (n : NodeId) : Type 0 where
   pub are_two : one ≢ other
   pub one_is : one ≢ c
   pub other_is : other ≢ c
-  pub shares_one : Shares p c n one
-  pub shares_other : Shares p c n other
+  pub shares_one : SharesNode p c n one
+  pub shares_other : SharesNode p c n other
 
 -- where a walk left two cells at a node of its last cell, both meet this one there
 two_met : (p : InstanceParts) (e : CellId) (s t : Step) (w : List Step) (n : NodeId) (spec : CellSpec) → Leads p e (s ∷ t ∷ w) (end_of e (s ∷ t ∷ w)) → AllPairs ◌≢◌ (e ∷ step_cells (s ∷ t ∷ w)) →
@@ -124,7 +124,7 @@ over_no_more p rows e w n are here walk some few not_last =
     let cells : List CellId = behind p rows (end_of e w) n in
     let which = (behind_is p rows (end_of e w) n are (end_is_cell p e w (end_of e w) here walk.leads)).which in
     let c : CellId = get_or cells 0 e in
-    let shares : Shares p (end_of e w) n c = ((which c).0 (Contains-get_or cells 0 e some)).0 in
+    let shares : SharesNode p (end_of e w) n c = ((which c).0 (Contains-get_or cells 0 e some)).0 in
     elim (cases_Bool (has_node n w)) [
       | inl has ↦ elim (over_last p e w n shares.one walk.leads walk.no_cell_twice shares.is_one shares.at_one has) [
         | inl last ↦ absurd (false≢true (sym not_last ∙ last))

@@ -12,7 +12,7 @@ use Rattle.cell_net.specs.declared.ids.CellId.{CellId}
 use Rattle.cell_net.specs.declared.ids.NodeId.{NodeId}
 use Rattle.cell_net.specs.declared.cells.CellSpec.{CellSpec}
 use Rattle.cell_net.specs.declared.parts.InstanceParts.{InstanceParts}
-use Rattle.gap_clauses.specs.Walks.{Step, Shares, IsWalkFrom, IsLess, IsWalkBefore, end_of, node_numbers, cell_numbers, step_cells}
+use Rattle.gap_clauses.specs.Walks.{Step, SharesNode, IsWalkFrom, IsLess, IsWalkBefore, end_of, node_numbers, cell_numbers, step_cells}
 use Rattle.gap_clauses.specs.Fans.{has_node, visits, longer, over, all_over, behind, AreBehind, AreRows, AreListed, IsOverNodes}
 use Rattle.gap_clauses.proofs.ListLemmas.{nothing_in_nil}
 use Rattle.gap_clauses.proofs.OrderLaws.{not_less_itself}
@@ -175,7 +175,7 @@ group_over p rows e ms n group are here old = record {
         let split = walk_split p e part.begin part.step part.rest (subst (IsWalkFrom p e) part.is both.0) in
         let node_is : part.step.node ≡ n = same_node _ _ part.step_is in
         let whole : u ≡ part.begin ++ step_to n part.step.cell ∷ [] = part.is ∙ (ap (λ (r : List Step). part.begin ++ part.step ∷ r) rest_is ∙ ap (λ (m : NodeId). part.begin ++ step_to m part.step.cell ∷ []) node_is) in
-        let shares : Shares p (end_of e part.begin) n part.step.cell = subst (λ (m : NodeId). Shares p (end_of e part.begin) m part.step.cell) node_is split.shares in
+        let shares : SharesNode p (end_of e part.begin) n part.step.cell = subst (λ (m : NodeId). SharesNode p (end_of e part.begin) m part.step.cell) node_is split.shares in
         let new_node : has_node n part.begin ≡ false = subst (λ (m : NodeId). has_node m part.begin ≡ false) node_is split.new_node in
         let among : Contains (behind p rows (end_of e part.begin) n) part.step.cell = ((behind_is p rows (end_of e part.begin) n are (end_is_cell p e part.begin (end_of e part.begin) here split.begin.leads)).which part.step.cell).1
         (shares, λ same. no_visit e part.step.cell part.begin split.new_cell (subst (Contains (e ∷ step_cells part.begin)) (sym same) (end_among e part.begin))) in

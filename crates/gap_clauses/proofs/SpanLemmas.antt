@@ -5,7 +5,7 @@ use Rattle.std.specs.List.{filter, range_with_len}
 use Rattle.std.proofs.lemmas.Bool.{cases_Bool, cases_eq, cases_lt, false≢true}
 use Rattle.std.proofs.lemmas.List.{get_or-set_other, length_push}
 use Rattle.cell_net.specs.declared.ids.CandidateId.{CandidateId}
-use Rattle.gap_clauses.specs.Searched.{is_marked}
+use Rattle.gap_clauses.specs.Searched.{is_marked_candidate}
 use Rattle.gap_clauses.specs.Spans.{IsSpanOf, IsWidened}
 use Rattle.gap_clauses.specs.Views.{candidate_of}
 use Rattle.gap_clauses.specs.declared.marks.Span.{Span}
@@ -14,7 +14,7 @@ use Rattle.gap_clauses.proofs.MarkLemmas.{marked_less, marked_more}
 
 -- the marked ones of so many candidates
 abbrev pub marked_of : List Bool → ℕ → List CandidateId
-marked_of marks n = filter (is_marked marks) (map candidate_of (range_with_len 0 n))
+marked_of marks n = filter (is_marked_candidate marks) (map candidate_of (range_with_len 0 n))
 
 pub span_none : (most : ℕ) (marks : List Bool) (span : Span) → span.low ≡ most → span.end ≡ 0 → All (λ m. m ≡ false) marks → IsSpanOf most marks span
 span_none most marks span low end none = record {

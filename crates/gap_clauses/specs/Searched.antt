@@ -43,5 +43,5 @@ abbrev pub AreMarks : List NodeId → List Step → List Bool → Type 0
 AreMarks nodes walk marks = (k : ℕ) → k < length nodes → slice_index_or marks k false ≡ is_on nodes walk (candidate_of k)
 
 -- whether the candidate is marked
-unfoldable pub is_marked : List Bool → CandidateId → Bool
-is_marked marks c = slice_index_or marks c.0 false
+unfoldable pub is_marked_candidate : List Bool → CandidateId → Bool
+is_marked_candidate marks c = slice_index_or marks c.0 false

@@ -1,5 +1,5 @@
 //! How the gaps of an instance are made: by a search from each cell.
-ghost use Rattle.std.specs.Prelude.{◌<◌, ◌+◌, ◌↔◌, ℕ, IfErr, IfOk, IsTrue, None, OnOk, length};
+ghost use Rattle.std.specs.Prelude.{◌+◌, ◌↔◌, ℕ, IfErr, IfOk, IsTrue, None, OnOk, length};
 ghost use Rattle.cell_net.specs.Rules.{IsInstance};
 ghost use Rattle.cell_net.specs.Space.{IsCell};
 ghost use Rattle.gap_clauses.specs.Crowds.{IsCrowded, IsGapRefusal};

@@ -2,7 +2,7 @@
 ghost use Rattle.std.specs.Prelude.{◌≡◌, ◌<◌, ◌≤◌, ◌++◌, ◌||◌, ℕ, OnErr, OnOk, false, length, map, nat_eq, slice_index_or, take};
 ghost use Rattle.std.specs.List.{filter, range_with_len};
 ghost use Rattle.cell_net.specs.declared.ids.NodeId.{NodeId};
-ghost use Rattle.gap_clauses.specs.Searched.{AreCandidateNodes, is_marked};
+ghost use Rattle.gap_clauses.specs.Searched.{AreCandidateNodes, is_marked_candidate};
 ghost use Rattle.gap_clauses.specs.Spans.{IsSpanOf, IsWidened};
 ghost use Rattle.gap_clauses.specs.Views.{candidate_of};
 
@@ -57,7 +57,7 @@ pub(crate) fn push_marked(
     requires within { count ≤ length marks.now }
     requires few { count ≤ 512 }
     requires span { IsSpanOf count marks.now span }
-    ensures ok { OnOk result (into.new.items ≡ into.old.items ++ filter (is_marked marks.now) (map candidate_of (range_with_len 0 count))) }
+    ensures ok { OnOk result (into.new.items ≡ into.old.items ++ filter (is_marked_candidate marks.now) (map candidate_of (range_with_len 0 count))) }
     ensures err { OnErr result (take (length into.old.items) into.new.items ≡ into.old.items) }
 {
     for number in span.low..span.end {
@@ -73,7 +73,7 @@ pub(crate) fn count_marked(marks: &[bool], count: usize, span: Span) -> u32
     requires within { count ≤ length marks.now }
     requires few { count ≤ 512 }
     requires span { IsSpanOf count marks.now span }
-    ensures { result ≡ length (filter (is_marked marks.now) (map candidate_of (range_with_len 0 count))) }
+    ensures { result ≡ length (filter (is_marked_candidate marks.now) (map candidate_of (range_with_len 0 count))) }
 {
     let mut marked = 0;
     for number in span.low..span.end {

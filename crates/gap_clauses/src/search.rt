@@ -1,6 +1,6 @@
 //! The search for all walks from one cell, in their order: first the walks over the same nodes, which
 //! stand side by side, then those that go on over one more node, from the lowest such node on.
-ghost use Rattle.std.specs.Prelude.{◌≡◌, ◌<◌, ◌≤◌, ◌++◌, true, false, All, IfErr, IfOk, OnOk, Option, length, slice_range, take};
+ghost use Rattle.std.specs.Prelude.{◌≡◌, ◌<◌, ◌≤◌, ◌++◌, true, false, All, IfErr, IfOk, OnOk, length, slice_range, take};
 ghost use Rattle.std.specs.List.{flat_map};
 ghost use Rattle.cell_net.specs.Rules.{IsInstance};
 ghost use Rattle.cell_net.specs.Space.{IsCell};

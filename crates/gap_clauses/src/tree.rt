@@ -31,11 +31,11 @@ impl Model for WalkTree {
     ghost use Rattle.gap_clauses.specs.Fans.{ends_over, has_node, walk_at};
     ghost use Rattle.gap_clauses.specs.Searched.{AreCandidateNodes, AreMarks};
     ghost use Rattle.gap_clauses.specs.Walks.{Step, end_of};
-    ghost use Rattle.gap_clauses.specs.Trees.{walks_in, AreBranches};
+    ghost use Rattle.gap_clauses.specs.Trees.{walks_of_tree, AreBranches};
 
     ghost Value = { List (List Step) };
 
-    ghost view = { λ t. walks_in t.branches.items };
+    ghost view = { λ t. walks_of_tree t.branches.items };
 
     ghost invariant = { λ t. AreBranches t.branches.items };
 }

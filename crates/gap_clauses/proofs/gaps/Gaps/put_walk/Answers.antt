@@ -2,7 +2,7 @@
 use Rattle.std.proofs.Common.{◌≡◌, ◌++◌, ◌∙◌, List, ap, arith, length, map, sym}
 use Rattle.std.specs.List.{filter, range_with_len}
 use Rattle.gap_clauses.specs.Fans.{walk_at, walks_to}
-use Rattle.gap_clauses.specs.Searched.{AreMarks, is_marked}
+use Rattle.gap_clauses.specs.Searched.{AreMarks, is_marked_candidate}
 use Rattle.gap_clauses.specs.Views.{candidate_of}
 use Rattle.gap_clauses.specs.Walks.{Step}
 use Rattle.gap_clauses.proofs.GapLaws.{walk_of}
@@ -22,4 +22,4 @@ returns-in-Ok-clause-ok c =
     let count : c.len-count.result ≡ length c.self.inside.candidates = omega (arith, c.len-count.ensures.value) in
     let all = marked_are c.self.inside.candidates w c.mark-span.new.marks marks in
     let one = walk_of c.self.inside.candidates c.self.inside.fans.items c.args.self.now c.args.e c.args.f c.args.walk c.index.result.now c.self.view_is c.requires (sym c.index.ensures) in
-    c.in-Ok.ensures.ok ∙ ap (λ cs. c.args.into.now.items ++ cs) (ap (λ n. filter (is_marked c.mark-span.new.marks) (map candidate_of (range_with_len 0 n))) count ∙ (all ∙ sym one.is))
+    c.in-Ok.ensures.ok ∙ ap (λ cs. c.args.into.now.items ++ cs) (ap (λ n. filter (is_marked_candidate c.mark-span.new.marks) (map candidate_of (range_with_len 0 n))) count ∙ (all ∙ sym one.is))
