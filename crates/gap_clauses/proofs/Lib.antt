@@ -13,3 +13,4 @@ mod SearchLemmas
 mod GapLaws
 mod MarkLemmas
 mod SpanLemmas
+mod OnceLaws

@@ -71,6 +71,12 @@ pub over_no : (p : InstanceParts) (rows : List (List CellId)) (first : CellId) (
 unfolding over
 over_no p rows first n w has = rw has refl
 
+pub over_nowhere : (p : InstanceParts) (rows : List (List CellId)) (first : CellId) (n : NodeId) (w : List Step) → behind p rows (end_of first w) n ≡ [] → over p rows first n w ≡ []
+over_nowhere p rows first n w nowhere = elim (cases_Bool (has_node n w)) [
+  | inl has ↦ over_no p rows first n w has
+  | inr new ↦ over_yes p rows first n w new ∙ ap (flat_map (longer first n w)) nowhere
+]
+
 -- a walk that is one step longer over the node
 record IsLonger (p : InstanceParts) (rows : List (List CellId)) (first : CellId) (n : NodeId) (w u : List Step) : Type 0 where
   pub cell : CellId
@@ -104,7 +110,7 @@ to_over p rows first n w c new_node new_cell among =
     subst (λ us. Contains us (w ++ step_to n c ∷ [])) (sym (over_yes p rows first n w new_node)) (Contains-flat_map (longer first n w) (behind p rows (end_of first w) n) c (w ++ step_to n c ∷ []) among one)
 
 -- the end of a walk is among its cells
-end_among : (e : CellId) (w : List Step) → Contains (e ∷ step_cells w) (end_of e w)
+pub end_among : (e : CellId) (w : List Step) → Contains (e ∷ step_cells w) (end_of e w)
 end_among e [] = (0, omega arith, refl)
 end_among e (s ∷ w) = let there = end_among s.cell w in (suc there.0, omega (arith, there.1), there.2)
 

@@ -266,6 +266,9 @@ visit_done p rows fan from end below first now ready is same kept listed goes =
 pub visit_leads : (p : InstanceParts) (first e : CellId) (P : List Step → Type 0) (walks : List (List Step)) → first ≡ e → IsCell p e → AreListed p e P walks → LeadToCells p first walks
 visit_leads p first e P walks same here listed = subst (λ x. LeadToCells p x walks) (sym same) (listed_lead p e P walks here listed)
 
+pub visit_walks : (p : InstanceParts) (first e : CellId) (P : List Step → Type 0) (walks : List (List Step)) → first ≡ e → AreListed p e P walks → All (IsWalkFrom p first) walks
+visit_walks p first e P walks same listed = subst (λ x. All (IsWalkFrom p x) walks) (sym same) (λ k d within. ((listed.each (get_or walks k d)).0 (Contains-get_or walks k d within)).0)
+
 -- what the loop keeps: behind a group that was visited, and where there was none
 pub visit_on : (p : InstanceParts) (rows : List (List CellId)) (fan next last : FanParts) (from begin n m : ℕ) (now : List (List Step)) → IsSearchState p rows fan from → AreFurther p fan.first (nodes_at fan.walks from) n now next.walks →
     next.first ≡ fan.first → next.cells ≡ fan.cells → begin ≡ length now → begin < length next.walks → take (length fan.walks) now ≡ fan.walks → last.first ≡ next.first → last.cells ≡ next.cells → take (length next.walks) last.walks ≡ next.walks →

@@ -4,12 +4,11 @@ use Rattle.std.specs.Prelude.{◌||◌, nat_eq}
 use Rattle.std.specs.List.{list_any}
 use Rattle.std.proofs.lemmas.Bool.{cases_lt, eq-eqb, ne_eqb}
 use Rattle.std.proofs.lemmas.List.Folds.{list_any-append}
-use Rattle.cell_net.specs.declared.ids.CellId.{CellId}
 use Rattle.cell_net.specs.declared.ids.NodeId.{NodeId}
 use Rattle.std.proofs.lemmas.List.{length_push, get_or_push, get_or_append_left}
 use Rattle.gap_clauses.specs.declared.tree.Branch.{Branch}
 use Rattle.gap_clauses.specs.Walks.{Step}
-use Rattle.gap_clauses.specs.Fans.{has_cell, has_node, walk_at}
+use Rattle.gap_clauses.specs.Fans.{has_node, walk_at}
 use Rattle.gap_clauses.specs.Trees.{AreBranches, grown_from, lengthened, step_of, walks_of_tree}
 
 grown_push : (walks : List (List Step)) (branches : List Branch) (b : Branch) → grown_from walks (branches ++ b ∷ []) ≡ grown_from walks branches ++ lengthened (grown_from walks branches) b ∷ []
@@ -108,24 +107,8 @@ node_elsewhere n w v s is other =
     let e : nat_eq s.node.0 n.0 ≡ false = ne_eqb _ _ other in
     ap (list_any (λ (t : Step). nat_eq t.node.0 n.0)) is ∙ (list_any-append (λ (t : Step). nat_eq t.node.0 n.0) w (s ∷ []) ∙ rw e (or_no (list_any (λ (t : Step). nat_eq t.node.0 n.0) w)))
 
-pub cell_here : (n : CellId) (w v : List Step) (s : Step) → v ≡ w ++ s ∷ [] → s.cell.0 ≡ n.0 → has_cell n v ≡ true
-unfolding has_cell
-cell_here n w v s is same =
-    let e : nat_eq s.cell.0 n.0 ≡ true = eq-eqb _ _ same in
-    ap (list_any (λ (t : Step). nat_eq t.cell.0 n.0)) is ∙ (list_any-append (λ (t : Step). nat_eq t.cell.0 n.0) w (s ∷ []) ∙ rw e (or_true (list_any (λ (t : Step). nat_eq t.cell.0 n.0) w)))
-
-pub cell_elsewhere : (n : CellId) (w v : List Step) (s : Step) → v ≡ w ++ s ∷ [] → s.cell.0 ≢ n.0 → has_cell n v ≡ has_cell n w
-unfolding has_cell
-cell_elsewhere n w v s is other =
-    let e : nat_eq s.cell.0 n.0 ≡ false = ne_eqb _ _ other in
-    ap (list_any (λ (t : Step). nat_eq t.cell.0 n.0)) is ∙ (list_any-append (λ (t : Step). nat_eq t.cell.0 n.0) w (s ∷ []) ∙ rw e (or_no (list_any (λ (t : Step). nat_eq t.cell.0 n.0) w)))
-
 pub no_node_first : (n : NodeId) (w : List Step) → w ≡ [] → has_node n w ≡ false
 unfolding has_node
 no_node_first n w is = ap (list_any (λ (t : Step). nat_eq t.node.0 n.0)) is
-
-pub no_cell_first : (n : CellId) (w : List Step) → w ≡ [] → has_cell n w ≡ false
-unfolding has_cell
-no_cell_first n w is = ap (list_any (λ (t : Step). nat_eq t.cell.0 n.0)) is
 
 pub ruleset tree_laws = (walks_push, walks_length, first_walk)

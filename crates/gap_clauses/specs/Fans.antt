@@ -1,5 +1,5 @@
 -- The walks from one cell, as they are searched and kept, which only this crate's code and proofs see.
-use Rattle.std.specs.Prelude.{◌≡◌, ◌≢◌, ◌<◌, ◌≤◌, ◌+◌, ◌*◌, ◌⊎◌, ◌↔◌, ◌||◌, ℕ, Bool, List, [], ◌∷◌, ◌++◌, Option, Some, None, length, map, cond, drop, All, AllPairs, slice_get, slice_index_or, Contains, nat_eq}
+use Rattle.std.specs.Prelude.{◌≡◌, ◌≢◌, ◌<◌, ◌≤◌, ◌+◌, ◌*◌, ◌⊎◌, ◌↔◌, ◌||◌, ℕ, Bool, false, List, [], ◌∷◌, ◌++◌, Option, Some, None, length, map, cond, drop, All, AllPairs, slice_get, slice_index_or, Contains, nat_eq}
 use Rattle.std.specs.List.{filter, flat_map, list_any, count_by}
 use Rattle.cell_net.specs.Borders.{IsAtEnd}
 use Rattle.cell_net.specs.Rules.{IsInstance}
@@ -36,6 +36,16 @@ has_cell c steps = list_any (λ s. nat_eq s.cell.0 c.0) steps
 
 unfoldable pub visits : CellId → CellId → List Step → Bool
 visits first c steps = nat_eq first.0 c.0 || has_cell c steps
+
+-- whether the last of these steps goes over the node
+abbrev pub ends_over : NodeId → List Step → Bool
+ends_over n [] = false
+ends_over n (s ∷ []) = nat_eq s.node.0 n.0
+ends_over n (s ∷ t ∷ steps) = ends_over n (t ∷ steps)
+
+-- no step leads into the cell
+abbrev pub IsNewIn : List Step → CellId → Type 0
+IsNewIn steps c = has_cell c steps ≡ false
 
 -- the walk at that place
 abbrev pub walk_at : List (List Step) → ℕ → List Step

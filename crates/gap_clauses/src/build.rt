@@ -17,8 +17,9 @@ use cell_net::{CellId, Instance, SectionId};
 use std::alloc::{AllocError, Global};
 
 impl Gaps {
-    /// The gaps of the instance, unless a pair of cells has more than 64 walks. Linear in the walks, times
-    /// their steps, but for the cells' pairs.
+    /// The gaps of the instance, unless a pair of cells has more than 64 walks. Linear in the walks, and
+    /// in the steps of those that come to a node where three cells of a section meet, but for the cells'
+    /// pairs.
     pub fn build(alloc: Global, inst: &Instance) -> Result<Gaps, GapRefusal>
         ensures gaps { IfOk result (AreGaps inst.now) }
         ensures few { IfOk result (λ _. (section : ℕ) → ¬ IsCrowded inst.now section) }

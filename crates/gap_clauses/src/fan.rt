@@ -1,6 +1,6 @@
 //! The walks from one cell, with the list of those to each cell.
-ghost use Rattle.std.specs.Prelude.{◌≡◌, ◌<◌, ◌≤◌, ◌++◌, ◌∷◌, [], ℕ, false, All, List, IfErr, IfOk, OnErr, OnOk, length, slice_index_or, slice_set};
-ghost use Rattle.gap_clauses.specs.Fans.{FanParts, IsStop, has_node, visits, walk_at, walks_to};
+ghost use Rattle.std.specs.Prelude.{◌≡◌, ◌<◌, ◌≤◌, ◌++◌, ◌∷◌, [], ℕ, false, All, List, IfErr, IfOk, OnErr, OnOk, length, nat_eq, slice_index_or, slice_set};
+ghost use Rattle.gap_clauses.specs.Fans.{FanParts, IsStop, ends_over, has_node, walk_at, walks_to};
 ghost use Rattle.cell_net.specs.declared.ids.CellId.{CellId};
 ghost use Rattle.gap_clauses.specs.Searched.{AreCandidateNodes, AreMarks};
 ghost use Rattle.gap_clauses.specs.Spans.{IsSpanOf};
@@ -83,13 +83,19 @@ impl Fan {
         self.tree.has_node(place, node)
     }
 
-    /// Whether the walk has the cell; linear in its steps.
-    #[tactic(auto, unfolding(crate::specs::Fans::visits))]
-    pub(crate) fn visits(&self, place: usize, cell: CellId) -> bool
+    /// Whether the last step of the walk goes over the node.
+    pub(crate) fn ends_over(&self, place: usize, node: NodeId) -> bool
         requires { place < length self.now.walks }
-        ensures { result ≡ visits self.now.first cell (walk_at self.now.walks place) }
+        ensures { result ≡ ends_over node (walk_at self.now.walks place) }
     {
-        self.first.0 == cell.0 || self.tree.has_cell(place, cell)
+        self.tree.ends_over(place, node)
+    }
+
+    /// Whether the walks begin with the cell.
+    pub(crate) fn begins_with(&self, cell: CellId) -> bool
+        ensures { result ≡ nat_eq self.now.first.0 cell.0 }
+    {
+        self.first.0 == cell.0
     }
 
     /// Appends the walk at that place with one step more, unless its last cell has 64 walks. After any

@@ -1,6 +1,6 @@
 //! Walks from one cell, each kept as one step behind the walk that it lengthens.
 ghost use Rattle.std.specs.Prelude.{◌≡◌, ◌<◌, ◌≤◌, ◌++◌, ◌∷◌, [], All, OnErr, OnOk, false, length, slice_index_or};
-ghost use Rattle.gap_clauses.specs.Fans.{has_cell, has_node, walk_at};
+ghost use Rattle.gap_clauses.specs.Fans.{ends_over, has_node, walk_at};
 ghost use Rattle.gap_clauses.specs.Searched.{AreCandidateNodes, AreMarks};
 ghost use Rattle.gap_clauses.specs.Spans.{IsSpanOf};
 ghost use Rattle.gap_clauses.specs.Walks.{Step, end_of};
@@ -28,7 +28,7 @@ pub(crate) struct WalkTree {
 
 impl Model for WalkTree {
     ghost use Rattle.std.specs.Prelude.{List};
-    ghost use Rattle.gap_clauses.specs.Fans.{has_cell, has_node, walk_at};
+    ghost use Rattle.gap_clauses.specs.Fans.{ends_over, has_node, walk_at};
     ghost use Rattle.gap_clauses.specs.Searched.{AreCandidateNodes, AreMarks};
     ghost use Rattle.gap_clauses.specs.Walks.{Step, end_of};
     ghost use Rattle.gap_clauses.specs.Trees.{walks_of_tree, AreBranches};
@@ -101,20 +101,16 @@ impl WalkTree {
         false
     }
 
-    /// Whether a step of the walk at that place leads into the cell; linear in its steps.
-    pub(crate) fn has_cell(&self, place: usize, cell: CellId) -> bool
+    /// Whether the last step of the walk at that place goes over the node.
+    pub(crate) fn ends_over(&self, place: usize, node: NodeId) -> bool
         requires { place < length self.now }
-        ensures { result ≡ has_cell cell (walk_at self.now place) }
+        ensures { result ≡ ends_over node (walk_at self.now place) }
     {
-        let mut at = place;
-        while at > 0 {
-            let branch = self.branches[at - 1];
-            if branch.cell.0 == cell.0 {
-                return true;
-            }
-            at = branch.before as usize;
+        if place == 0 {
+            false
+        } else {
+            self.branches[place - 1].node.0 == node.0
         }
-        false
     }
 
     /// Marks each of the candidates that is at a node of the walk at that place, and tells from which one

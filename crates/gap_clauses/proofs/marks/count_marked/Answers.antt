@@ -1,6 +1,6 @@
 -- Why `count_marked` does what its contract says.
-use Rattle.std.proofs.Common.{◌≡◌, ◌≤◌, ◌+◌, ◌∷◌, [], ◌∙◌, length, ap, arith, refl, sym}
-use Rattle.gap_clauses.proofs.SpanLemmas.{count_less, count_more, marked_of, none_before, none_behind}
+use Rattle.std.proofs.Common.{◌≤◌, ◌+◌, ◌∙◌, length, ap, arith, sym}
+use Rattle.gap_clauses.proofs.SpanLemmas.{count_less, count_more, none_before, none_behind}
 use Rattle.gap_clauses.proofs.marks.count_marked.Goals as goal
 use Rattle.gap_clauses.proofs.marks.count_marked.Goals.{then-marks-number, else-marks-number}
 

@@ -1,5 +1,5 @@
 -- Why `Gaps::put_walk` does what its contract says.
-use Rattle.std.proofs.Common.{◌≡◌, ◌++◌, ◌∙◌, List, ap, arith, length, map, subst, sym}
+use Rattle.std.proofs.Common.{◌≡◌, ◌++◌, ◌∙◌, List, ap, arith, length, map, sym}
 use Rattle.std.specs.List.{filter, range_with_len}
 use Rattle.gap_clauses.specs.Fans.{walk_at, walks_to}
 use Rattle.gap_clauses.specs.Searched.{AreMarks, is_marked_candidate}
