@@ -170,7 +170,7 @@ module _ (p : NetParts) (t : Timetable) (gs : List GridTrack) (i : InstanceParts
         of_section = subst (λ n. IsTrackOfSection p n at.k) same its.1.own.section;
       }
 
-  pub connected : (section : ℕ) → HangsTogether i section
+  pub connected : (section : ℕ) → IsConnected i section
   unfolding AreJoinedTracks
   connected section e f e_in f_in =
       let one = of_track section e e_in in

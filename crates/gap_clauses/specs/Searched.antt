@@ -30,13 +30,13 @@ pub record AreCandidateNodes (nodes : List NodeId) : Type 0 where
   pub rising : AllPairs (λ m n. m.0 < n.0) nodes
 
 -- the place is that of the node of this number, or behind all where no candidate is at it
-pub record IsPlaceOf (nodes : List NodeId) (number : ℕ) (place : ℕ) : Type 0 where
+pub record IsPlaceOfNode (nodes : List NodeId) (number : ℕ) (place : ℕ) : Type 0 where
   pub there : place < length nodes → (d : NodeId) → (slice_index_or nodes place d).0 ≡ number
   pub nowhere : length nodes ≤ place → All (λ n. n.0 ≢ number) nodes
 
 -- the places of the nodes of these numbers, from 0 on
 pub record ArePlacesOf (nodes : List NodeId) (places : List ℕ) : Type 0 where
-  pub each : (number d : ℕ) → number < length places → IsPlaceOf nodes number (slice_index_or places number d)
+  pub each : (number d : ℕ) → number < length places → IsPlaceOfNode nodes number (slice_index_or places number d)
 
 -- the marks say which candidates, of these nodes, are at nodes of the walk
 abbrev pub AreMarks : List NodeId → List Step → List Bool → Type 0

@@ -1,7 +1,7 @@
 //! Which candidate is at a node: looked up for nodes of low numbers, and else searched for by halves.
 ghost use Rattle.std.specs.Prelude.{◌≡◌, ◌≢◌, ◌<◌, ◌≤◌, All, IfOk, MatchOption, length, slice_index_or};
 ghost use Rattle.std.specs.List.Sorted.{IsPartitionPoint};
-ghost use Rattle.gap_clauses.specs.Searched.{AreCandidateNodes, ArePlacesOf, IsPlaceOf};
+ghost use Rattle.gap_clauses.specs.Searched.{AreCandidateNodes, ArePlacesOf, IsPlaceOfNode};
 
 use cell_net::NodeId;
 use std::alloc::{AllocError, Global};
@@ -100,7 +100,7 @@ fn looked_up(nodes: &[NodeId]) -> u32
 /// The place of the node among the candidates' nodes, or how many these are.
 fn place_or_count(node: NodeId, nodes: &[NodeId]) -> u32
     requires { AreCandidateNodes nodes.now }
-    ensures { IsPlaceOf nodes.now node.0 result }
+    ensures { IsPlaceOfNode nodes.now node.0 result }
 {
     match place_among(node, nodes) {
         Some(at) => at as u32,

@@ -1,8 +1,8 @@
 -- What a learned clause leaves: behind going back to its level it fits the trail, and the state keeps what holds of it.
 use Rattle.std.proofs.Common.{◌≡◌, ◌≢◌, ℕ, suc, ◌+◌, ◌-◌, ◌<◌, ◌≤◌, true, false, ◌⊎◌, inl, inr, List, [], ◌∷◌, ◌++◌, length, get_or, refl, ap, sym, subst, ◌∙◌, arith}
-use Rattle.std.specs.Prelude.{All, Any, Contains, Option, Some, None, Ok, Err}
+use Rattle.std.specs.Prelude.{Any, Option, Some, None}
 use Rattle.std.proofs.lemmas.Bool.{cases_eq, cases_lt}
-use Rattle.std.proofs.lemmas.List.{drop_all, length_push, get_or-take, get_or_default, length-take-le}
+use Rattle.std.proofs.lemmas.List.{length_push, get_or-take, get_or_default, length-take-le}
 use Rattle.std.proofs.lemmas.List.Elements.{All-push}
 use Rattle.sat_core.specs.declared.literal.Lit.{Lit}
 use Rattle.sat_core.specs.declared.literal.ClauseId.{ClauseId}
@@ -14,7 +14,6 @@ use Rattle.sat_core.specs.Search.{Event, derives, after_event, IsLearned, log_of
 use Rattle.sat_core.proofs.SearchLaws.{log_of-append}
 use Rattle.search_trail.specs.declared.entry.Entry.{Entry}
 use Rattle.search_trail.specs.Trails.{TrailParts, IsTrail, IsCutBack, known_of, up_to, assigned}
-use Rattle.search_trail.proofs.TrailLaws.{IsTrail-cut}
 use Rattle.search_trail.proofs.LevelLaws.{up_to-same, all_up_to, up_to-from}
 use Rattle.conflict_learn.specs.Learning.{IsLearnedFrom, IsAsserting}
 use Rattle.conflict_learn.proofs.FreshLaws.{IsUnitUnder-learned}
@@ -30,7 +29,7 @@ use Rattle.watch_solver.specs.declared.state.State.{State}
 use Rattle.watch_solver.specs.Running.{watch_solving, first_clauses, LogEnds, DropPlaceTells, AreLiveOf, ClashTells, IsRunning, IsWatchState, IsLearnedStep}
 use Rattle.watch_solver.proofs.LiveLemmas.{pushed_live}
 use Rattle.watch_solver.proofs.SearchLemmas.{vars_now, formula_now, next_search, numbers_used_added, live_added, learned_next}
-use Rattle.watch_solver.proofs.SeatLemmas.{IsSeated, short_grown, conflict_grown, cut_bottom}
+use Rattle.watch_solver.proofs.SeatLemmas.{short_grown}
 use Rattle.watch_solver.proofs.StateLemmas.{formula_alike, formula_inserted}
 
 -- ---- what was learned, after going back to its level

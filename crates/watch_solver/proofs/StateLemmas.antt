@@ -1,19 +1,18 @@
 -- The watch solver's state keeps what holds of it: at its beginning, where it is seen alike, with a unit and with a learned clause.
 use Rattle.std.proofs.Common.{◌≡◌, ◌≢◌, ℕ, ◌+◌, ◌<◌, ◌≤◌, Bool, true, false, inl, List, [], ◌∷◌, ◌++◌, length, take, drop, min, refl, ap, sym, subst, ◌∙◌, arith}
-use Rattle.std.specs.Prelude.{All, Any, Contains, Option, Some, None, Ok, Err}
-use Rattle.std.proofs.lemmas.List.{drop_all, length_push, get_or-take, get_or_default, length-take-le}
+use Rattle.std.specs.Prelude.{All, Any, Option, Some, None, Ok, Err}
+use Rattle.std.proofs.lemmas.List.{drop_all, length-take-le}
 use Rattle.std.proofs.lemmas.List.Elements.{All-nil, All-take}
 use Rattle.sat_core.specs.declared.literal.Lit.{Lit}
 use Rattle.sat_core.specs.declared.literal.ClauseId.{ClauseId}
 use Rattle.sat_core.specs.Clauses.{negated, IsOver}
 use Rattle.sat_core.specs.Derivation.{DerivedStep, AddsEmptyClause, numbered_from}
-use Rattle.sat_core.specs.Fresh.{IsUnitUnder}
 use Rattle.sat_core.specs.Hints.{NumberedClause, clause_of, is_known}
-use Rattle.sat_core.specs.Search.{Event, gives, derives, Search, search_of, after_event, IsLearned, log_of, units_of}
+use Rattle.sat_core.specs.Search.{Event, gives, Search, search_of, after_event, log_of, units_of}
 use Rattle.sat_core.proofs.LiveLaws.{clause_of-more}
 use Rattle.sat_core.proofs.SearchLaws.{log_given}
 use Rattle.search_trail.specs.declared.entry.Entry.{Entry}
-use Rattle.search_trail.specs.Trails.{TrailParts, IsTrail, IsCutBack, Grows, known_of, up_to, assigned}
+use Rattle.search_trail.specs.Trails.{TrailParts, IsTrail, IsCutBack, Grows, known_of}
 use Rattle.search_trail.proofs.TrailLaws.{IsTrail-cut}
 use Rattle.conflict_learn.specs.Learning.{IsConflict}
 use Rattle.solver_face.specs.Solving.{Solving, IsSound, search_now, numbers_used, Searched, IsRefuted, IsAnswer, EndsInAdd}
