@@ -1,8 +1,8 @@
 //! What the watch solver alone does: restarts, and drops of learned clauses, each at its place.
 ghost use Rattle.std.specs.Prelude.{◌≡◌, ◌<◌};
 
+use super::drops::drops_enough;
 use super::formulas::{formula_of, pigeons};
-use derivation_log::{Log, Step};
 use log_checker::{LogVerdict, check_log};
 use solver_face::{Answer, Budget, Solver};
 use std::alloc::Global;
@@ -13,8 +13,10 @@ use std::test::Fail;
 use vss_steps::Steps;
 use watch_solver::WatchSolver;
 
-static LUBY: [u32; 31] = [
+static LUBY: [u32; 63] = [
     1, 1, 2, 1, 1, 2, 4, 1, 1, 2, 1, 1, 2, 4, 8, 1, 1, 2, 1, 1, 2, 4, 1, 1, 2, 1, 1, 2, 4, 8, 16,
+    1, 1, 2, 1, 1, 2, 4, 1, 1, 2, 1, 1, 2, 4, 8, 1, 1, 2, 1, 1, 2, 4, 1, 1, 2, 1, 1, 2, 4, 8, 16,
+    32,
 ];
 
 /// How many restarts are due behind so many conflicts, of which the last one ended the call.
@@ -30,33 +32,6 @@ fn due(conflicts: u32) -> u32 {
         count = count.wrapping_add(1);
     }
     count
-}
-
-/// Whether so many conflicts are a place at which clauses are dropped.
-fn is_drop_place(conflicts: u32) -> bool {
-    conflicts == 2000
-        || conflicts == 6000
-        || conflicts == 14_000
-        || conflicts == 30_000
-        || conflicts == 62_000
-        || conflicts == 126_000
-}
-
-/// Whether each drop stands at such a place, and how many clauses the log adds and drops.
-fn places(log: &Log) -> (bool, u32, usize) {
-    let mut adds = 0u32;
-    let mut dropped = 0usize;
-    let mut well = true;
-    for step in log.steps.as_slice() {
-        match step {
-            Step::Add { .. } => adds = adds.wrapping_add(1),
-            Step::Drop { ids } => {
-                well = well && is_drop_place(adds);
-                dropped = dropped.wrapping_add(ids.len());
-            }
-        }
-    }
-    (well, adds, dropped)
 }
 
 /// Searches with that budget for so many pigeons in one hole fewer, and looks at restarts, drops and the log.
@@ -76,14 +51,13 @@ fn searches<L: Ledger>(
     let clauses = pigeons(alloc, count, count.saturating_sub(1))?;
     let start = formula_of(rt, alloc, &clauses)?;
     assert!(rt; start.len() < 100_000);
+    let vars = start.vars() as usize;
     let mut solver = WatchSolver::new(start)?;
     let mut budget = Budget::new(limit);
     let answer = solver.solve(&mut budget, &mut steps)?;
     assert_eq!(rt; solver.restarts(), due(solver.conflicts()));
     let log = solver.into_log();
-    let (well, adds, dropped) = places(&log);
-    assert!(rt; well);
-    assert!(rt; adds <= 2000 || dropped >= 500);
+    drops_enough(rt, &log, vars)?;
     assert!(rt; log.steps.len() < 2_000_000);
     let again = formula_of(rt, alloc, &clauses)?;
     let verdict = check_log(again, &log)?;
@@ -102,5 +76,5 @@ fn seven_pigeons_restart_the_search(rt: HostRuntime) -> Result<(), Fail> {
 
 #[test]
 fn eight_pigeons_drop_clauses(rt: HostRuntime) -> Result<(), Fail> {
-    searches::<Brand>(&rt, rt.alloc(), 8, 2100, Blank::new(1))
+    searches::<Brand>(&rt, rt.alloc(), 8, 6100, Blank::new(1))
 }
