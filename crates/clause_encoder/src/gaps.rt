@@ -2,7 +2,6 @@
 ghost use Rattle.std.specs.Prelude.{◌≡◌, ◌<◌, [], All, length, slice_index_or, OnOk, IfErr};
 ghost use Rattle.std.specs.List.{flat_map};
 ghost use Rattle.cell_net.specs.declared.ids.CandidateId.{CandidateId};
-ghost use Rattle.clause_list.specs.Numbers.{is_not as is_not_lit};
 ghost use Rattle.clause_list.specs.BorderClauses.{gap_clauses as gap_clauses_of};
 ghost use Rattle.clause_list.specs.Coding.{walks_in};
 ghost use Rattle.clause_list.specs.Orders.{AreWalksOver};

@@ -1,11 +1,11 @@
 //! The lists of tasks, written whole.
-ghost use Rattle.std.specs.Prelude.{◌≡◌, ◌<◌, ◌≤◌, ◌+◌, OnOk, IfErr};
+ghost use Rattle.std.specs.Prelude.{◌<◌, ◌≤◌, ◌+◌, OnOk, IfErr};
 ghost use Rattle.border_counter.specs.Counter.{sum_to};
 ghost use Rattle.clause_list.specs.BorderClauses.{most_clauses};
-ghost use Rattle.clause_encoder.specs.Writing.{AreClauses, Takes, IsCause};
+ghost use Rattle.clause_encoder.specs.Writing.{Takes, IsCause};
 ghost use Rattle.clause_encoder.specs.TableLists.{tables_of};
 ghost use Rattle.clause_encoder.specs.Plans.{base_list, counted_list};
-ghost use Rattle.clause_encoder.specs.PlanFits.{PlanFits, FitsBase, FitsCount};
+ghost use Rattle.clause_encoder.specs.PlanFits.{FitsBase, FitsCount};
 
 use crate::at_least::at_least_number;
 use crate::borders::{write_given, write_kept};

@@ -1,5 +1,5 @@
 //! The families of gaps and trains, in their order.
-ghost use Rattle.std.specs.Prelude.{◌≡◌, ◌<◌, OnOk, IfErr};
+ghost use Rattle.std.specs.Prelude.{◌<◌, OnOk, IfErr};
 ghost use Rattle.clause_list.specs.WholeList.{of_each_train};
 ghost use Rattle.clause_encoder.specs.Writing.{AreClauses, Takes, IsCause};
 ghost use Rattle.clause_encoder.specs.TableLists.{tables_of};

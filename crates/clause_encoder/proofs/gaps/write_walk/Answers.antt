@@ -1,5 +1,5 @@
 -- Why `write_walk` does what its contract says.
-use Rattle.std.proofs.Common.{◌≡◌, ◌+◌, [], ◌∙◌, ap, refl, sym, arith}
+use Rattle.std.proofs.Common.{[], refl, arith}
 use Rattle.std.specs.Prelude.{slice_index_or}
 use Rattle.clause_list.specs.Coding.{walks_in}
 use Rattle.clause_encoder.specs.WalkFitting.{on_walk_alone}

@@ -1,6 +1,5 @@
 -- Why `ApartFromPart::write` does what its contract says.
-use Rattle.std.proofs.Common.{◌≡◌, ℕ, ◌∙◌, length, sym, ap, arith}
-use Rattle.clause_list.specs.Numbers.{section_of}
+use Rattle.std.proofs.Common.{length, ap, arith}
 use Rattle.clause_list.specs.PairClauses.{apart_from}
 use Rattle.clause_list.proofs.SectionLaws.{few_in_section}
 use Rattle.clause_encoder.proofs.ApartLemmas.{row_length, row_literals, row_some}
