@@ -2,7 +2,7 @@
 use Rattle.std.proofs.Common.{◌≡◌, ℕ, ◌+◌, ◌-◌, ◌<◌, ◌≤◌, Bool, true, false, cond, inl, inr, List, length, take, get_or, set, refl, ap, sym, subst, ◌∙◌, arith}
 use Rattle.std.specs.Prelude.{All, sum_by}
 use Rattle.std.proofs.lemmas.Bool.{cases_eq, cases_lt, cases_Bool}
-use Rattle.std.proofs.lemmas.List.{get_or-set_same, get_or-set_other, length-set, length-map, get_or-map, get_or_past, get_or-take, length-take-le}
+use Rattle.std.proofs.lemmas.List.{get_or-set_same, get_or-set_other, length-map, get_or-map, get_or_past, get_or-take, length-take-le}
 use Rattle.std.proofs.lemmas.List.Sums.{sum_by-set}
 use Rattle.sat_core.specs.declared.literal.Lit.{Lit}
 use Rattle.sat_core.specs.Clauses.{negated, IsOver}
@@ -10,7 +10,7 @@ use Rattle.sat_core.specs.Hints.{is_known}
 use Rattle.sat_core.specs.Fresh.{IsOpen}
 use Rattle.sat_core.proofs.OpenLaws.{place_of_known, is_known-at, true_is_not_false, one_variable}
 use Rattle.search_trail.specs.declared.entry.Entry.{Entry}
-use Rattle.search_trail.specs.Trails.{TrailParts, IsTrail, IsCut, known_of}
+use Rattle.search_trail.specs.Trails.{TrailParts, IsTrail, IsCutBack, known_of}
 use Rattle.activity_order.specs.Choices.{OrderParts, IsFirst, denial, OpenOnesWait, IsNextDecision, NoneIsOpen}
 
 abbrev as_number : Bool → ℕ
@@ -88,7 +88,7 @@ known_front entries size lit within unknown known =
     ]
 
 -- each variable whose literal is gone waits
-pub wait_cut : (order : OrderParts) (t later : TrailParts) (level : ℕ) → OpenOnesWait order t → All (λ e. level < e.level → get_or order.waits (e.lit.var.0 - 1) false ≡ true) t.entries → later.vars ≡ t.vars → IsCut level t.entries later.entries → OpenOnesWait order later
+pub wait_cut : (order : OrderParts) (t later : TrailParts) (level : ℕ) → OpenOnesWait order t → All (λ e. level < e.level → get_or order.waits (e.lit.var.0 - 1) false ≡ true) t.entries → later.vars ≡ t.vars → IsCutBack level t.entries later.entries → OpenOnesWait order later
 wait_cut order t later level wait back vars cut = record {
   same_vars = wait.same_vars ∙ sym vars;
   wait = λ place is_open.

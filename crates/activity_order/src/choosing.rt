@@ -1,6 +1,6 @@
 //! The order beside a trail: each open variable waits.
 ghost use Rattle.std.specs.Prelude.{◌≡◌, ◌-◌, ◌≤◌, ◌<◌, All, MatchOption, length, min, true, false, slice_index_or};
-ghost use Rattle.search_trail.specs.Trails.{IsCut, decided};
+ghost use Rattle.search_trail.specs.Trails.{IsCutBack, decided};
 ghost use Rattle.activity_order.specs.Choices.{OpenOnesWait, IsNextDecision, NoneIsOpen};
 
 use crate::order::ActivityOrder;
@@ -43,7 +43,7 @@ pub fn go_back(order: &mut ActivityOrder, trail: &mut Trail, level: u32)
     ensures scores { order.new.scores ≡ order.old.scores }
     ensures step { order.new.step ≡ order.old.step }
     ensures vars { trail.new.vars ≡ trail.old.vars }
-    ensures cut { IsCut level trail.old.entries trail.new.entries }
+    ensures cut { IsCutBack level trail.old.entries trail.new.entries }
     ensures read { trail.new.read ≡ min trail.old.read (length trail.new.entries) }
     ensures now { trail.new.present ≡ level }
 {

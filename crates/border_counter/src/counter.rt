@@ -2,7 +2,7 @@
 ghost use Rattle.std.specs.Prelude.{◌≡◌, ◌+◌, ◌-◌, ◌^◌, ◌<◌, ◌≤◌, ◌↔◌, ◌++◌, Bool, true, ℕ, List, length, sum_by, count_by, All, IfOk, IsOk, OnOk, OnErr};
 ghost use Rattle.sat_core.specs.Clauses.{IsOver, SatisfiesAll};
 ghost use Rattle.gate_tables.specs.Wiring.{is_true_in, GainsFront};
-ghost use Rattle.border_counter.specs.Counter.{sum_to, at_least_var, at_least_lit, counter_clauses, Counts, counted};
+ghost use Rattle.border_counter.specs.Counter.{sum_to, at_least_lit, counter_clauses, Counts, counted};
 
 use crate::gates::at_least;
 use crate::rows::{add_gates, add_order};

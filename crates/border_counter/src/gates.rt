@@ -1,7 +1,7 @@
 //! One gate of the counter.
 ghost use Rattle.std.specs.Prelude.{◌≡◌, ◌+◌, ◌^◌, ◌<◌, ◌≤◌, length, IsOk, OnOk, OnErr};
 ghost use Rattle.border_counter.specs.Adding.{AddsAll, AddsFront, HasRoom};
-ghost use Rattle.border_counter.specs.Counter.{at_least_var, at_least_lit, gate_at, sum_to};
+ghost use Rattle.border_counter.specs.Counter.{at_least_var, at_least_lit, gate_at};
 ghost use Rattle.border_counter.specs.Fitting.{FitsCounter};
 
 use gate_tables::{and2, cell, emit, eq, or2};

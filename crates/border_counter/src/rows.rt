@@ -1,5 +1,5 @@
 //! The rows of the counter's gates, and the clauses of their order.
-ghost use Rattle.std.specs.Prelude.{◌≡◌, ◌+◌, ◌^◌, ◌<◌, ◌≤◌, length, IsOk, OnOk, OnErr};
+ghost use Rattle.std.specs.Prelude.{◌+◌, ◌^◌, ◌<◌, ◌≤◌, length, IsOk, OnOk, OnErr};
 ghost use Rattle.border_counter.specs.Adding.{AddsAll, AddsFront, HasRoom};
 ghost use Rattle.border_counter.specs.Counter.{row_clauses, gates_of, order_at, order_clauses};
 ghost use Rattle.border_counter.specs.Fitting.{FitsCounter};

@@ -1,6 +1,6 @@
 //! Instances: parts that keep every rule.
 
-ghost use Rattle.std.specs.Prelude.{◌≡◌, ◌<◌, ◌≤◌, ◌^◌, ◌↔◌, All, IfErr, IfOk, IsTrue, Some, length, slice_get};
+ghost use Rattle.std.specs.Prelude.{◌≡◌, ◌<◌, ◌≤◌, ◌^◌, ◌↔◌, IfErr, IfOk, IsTrue, Some, length, slice_get};
 ghost use Rattle.cell_net.specs.Space.{Follows, IsCell};
 ghost use Rattle.cell_net.specs.Rules.{HasFewStops, IsGoodStation, IsInstance};
 ghost use Rattle.cell_net.specs.Refusals.{IsRefusal};

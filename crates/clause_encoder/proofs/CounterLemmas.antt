@@ -1,8 +1,8 @@
 -- The clauses of a counter are short; and what a writer keeps when it takes them.
-use Rattle.std.proofs.Common.{◌≡◌, ℕ, ◌+◌, ◌-◌, ◌*◌, ◌≤◌, ◌^◌, Bool, true, false, cond, List, [], ◌∷◌, ◌++◌, length, ap, ◌∙◌, refl, arith, length-append}
+use Rattle.std.proofs.Common.{◌≡◌, ℕ, ◌+◌, ◌-◌, ◌*◌, ◌≤◌, ◌^◌, Bool, true, false, cond, List, [], ◌∷◌, ◌++◌, length, ap, ◌∙◌, refl, sym, arith, length-append}
 use Rattle.std.specs.Prelude.{All, nat_eq, nat_le}
 use Rattle.std.specs.List.{sum_by, range_with_len, list_all}
-use Rattle.std.proofs.lemmas.Bool.{leb-true}
+use Rattle.std.proofs.lemmas.Bool.{false≢true, leb-true}
 use Rattle.std.proofs.lemmas.List.Sums.{sum_by-le}
 use Rattle.std.proofs.lemmas.List.Elements.{All-nil, All-cons, All-append}
 use Rattle.sat_core.specs.declared.literal.Lit.{Lit}
@@ -58,4 +58,13 @@ writer_counted most count lits clauses literals keeps f g taken writer room size
   few = writer.few;
   few_lits = (let l : lits ≤ count * 2 ^ 32 = writer.few_lits in omega arith);
   kept = λ k. (let e : length g.clauses ≡ length f.clauses + length taken = ap length (kept k) ∙ length-append f.clauses taken in let h : length f.clauses ≡ count = writer.kept k in omega arith);
+}
+
+-- a writer that only counted some clauses
+pub writer_skips : (most count lits clauses literals : ℕ) (keeps : Bool) (f : FormulaParts) → IsWriter most count lits keeps f → count + clauses ≤ most → literals ≤ clauses * 2 ^ 32 → keeps ≡ false → IsWriter most (count + clauses) (lits + literals) keeps f
+writer_skips most count lits clauses literals keeps f writer room small counts = record {
+  within = room;
+  few = writer.few;
+  few_lits = (let l : lits ≤ count * 2 ^ 32 = writer.few_lits in omega arith);
+  kept = λ k. absurd (false≢true (sym counts ∙ k));
 }

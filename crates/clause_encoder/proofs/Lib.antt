@@ -4,6 +4,7 @@ pub mod WriterLemmas
 pub mod MarkLemmas
 pub mod GatherLemmas
 pub mod NetworkLemmas
+pub mod ApartLemmas
 pub mod CounterLemmas
 pub mod WalkLemmas
 pub mod TrainLemmas

@@ -1,31 +1,29 @@
--- Steps of the loop that adds a literal for each item of a list; and the walks between two cells.
-use Rattle.std.proofs.Common.{◌≡◌, ℕ, ◌+◌, ◌<◌, ◌≤◌, List, [], ◌∷◌, ◌++◌, length, get_or, take, map, sym, ap, ◌∙◌, subst, append_assoc, arith}
+-- The clause of a walk, and the walks between two cells.
+use Rattle.std.proofs.Common.{◌≡◌, ℕ, ◌+◌, ◌<◌, ◌≤◌, List, [], ◌∷◌, ◌++◌, length, get_or, take, map, sym, ap, ◌∙◌, subst, arith}
 use Rattle.std.specs.Prelude.{All, Contains, slice_index}
 use Rattle.std.proofs.lemmas.Grind.{get_or_default_zero}
-use Rattle.std.proofs.lemmas.List.{append-nil, map-append, take_more, take_all}
+use Rattle.std.proofs.lemmas.List.{length-map, map-append, take_more}
 use Rattle.sat_core.specs.declared.literal.Lit.{Lit}
 use Rattle.cell_net.specs.declared.ids.CandidateId.{CandidateId}
-use Rattle.clause_list.specs.Numbers.{Network, above}
+use Rattle.clause_list.specs.Numbers.{Network, above, is_not}
 use Rattle.clause_list.specs.Orders.{AreWalksOver}
-use Rattle.clause_encoder.specs.Writing.{Writing, Adds}
+use Rattle.clause_encoder.specs.Writing.{literal_count}
 use Rattle.clause_encoder.specs.PairFitting.{IsAbove}
-use Rattle.clause_encoder.specs.WalkFitting.{AreFew}
+use Rattle.clause_encoder.specs.WalkFitting.{AreFew, border_lit, on_walk, on_walk_alone}
 use Rattle.clause_encoder.proofs.NetworkLemmas.{above_members}
+use Rattle.clause_encoder.proofs.WritingLemmas.{takes_one}
 
-pub item_none : {X : Type 0} (of : X → Lit) (xs : List X) (w : Writing) → Adds w (map of (take 0 xs)) w
-item_none of xs w = ap (λ lits. record w { open_lits = lits }) (sym (append-nil w.open_lits))
+-- one border more in the clause of a walk
+pub border_more : (number : ℕ) (walk : List CandidateId) (i : ℕ) (d : CandidateId) (old new : List Lit) (lit : Lit) → old ≡ on_walk number (take i walk) → new ≡ old ++ lit ∷ [] → lit ≡ border_lit (get_or walk i d) → i < length walk → new ≡ on_walk number (take (i + 1) walk)
+unfolding on_walk
+border_more number walk i d old new lit before this is within =
+    let all : map border_lit (take (i + 1) walk) ≡ map border_lit (take i walk) ++ border_lit (get_or walk i d) ∷ [] = ap (map border_lit) (take_more walk i d within) ∙ map-append border_lit (take i walk) (get_or walk i d ∷ []) in
+    this ∙ (ap (λ lits. lits ++ lit ∷ []) before ∙ (ap (λ l. is_not number ∷ (map border_lit (take i walk) ++ l ∷ [])) is ∙ ap (λ lits. is_not number ∷ lits) (sym all)))
 
-pub item_more : {X : Type 0} (of : X → Lit) (xs : List X) (i : ℕ) (d : X) (u v w : Writing) (lit : Lit) → Adds u (map of (take i xs)) v → Adds v (lit ∷ []) w → lit ≡ of (get_or xs i d) → i < length xs → Adds u (map of (take (i + 1) xs)) w
-item_more of xs i d u v w lit before this is within =
-    let all : map of (take (i + 1) xs) ≡ map of (take i xs) ++ of (get_or xs i d) ∷ [] = ap (map of) (take_more xs i d within) ∙ map-append of (take i xs) (get_or xs i d ∷ []) in
-    this
-    ∙ (ap {A = Writing} (λ x. record x { open_lits = x.open_lits ++ lit ∷ [] }) before
-    ∙ (ap (λ lits. record u { open_lits = lits }) (append_assoc u.open_lits (map of (take i xs)) (lit ∷ []))
-    ∙ (ap (λ (l : Lit). record u { open_lits = u.open_lits ++ (map of (take i xs) ++ l ∷ []) }) is
-    ∙ ap (λ lits. record u { open_lits = u.open_lits ++ lits }) (sym all))))
-
-pub item_done : {X : Type 0} (of : X → Lit) (xs : List X) (i : ℕ) (u v : Writing) → Adds u (map of (take i xs)) v → length xs ≤ i → Adds u (map of xs) v
-item_done of xs i u v before past = before ∙ ap (λ ys. record u { open_lits = u.open_lits ++ map of ys }) (take_all i xs past)
+-- how many literals the clause of a walk has
+pub walk_literals : (number : ℕ) (walk : List CandidateId) → literal_count (on_walk_alone number walk) ≡ length walk + 1
+unfolding on_walk
+walk_literals number walk = takes_one (on_walk number walk) ∙ omega (arith, length-map walk border_lit)
 
 -- the candidates on the walks between a cell and one above it
 pub few_on_walks : (net : Network) (walks : ℕ → ℕ → List (List CandidateId)) (e f place : ℕ) → AreWalksOver net walks → net.candidates ≤ 512 → e < length net.sections → place < length (above net e) → slice_index (above net e) place ≡ f → All AreFew (walks e f)

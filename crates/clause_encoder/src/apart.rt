@@ -1,8 +1,9 @@
 //! The clauses by which trains keep apart.
-ghost use Rattle.std.specs.Prelude.{◌≡◌, ◌<◌, ◌≤◌, length, OnOk, IfErr};
+ghost use Rattle.std.specs.Prelude.{◌≡◌, ◌+◌, ◌*◌, ◌<◌, ◌≤◌, List, false, length, OnOk, IfErr};
+ghost use Rattle.sat_core.specs.declared.literal.Lit.{Lit};
 ghost use Rattle.clause_list.specs.PairClauses.{apart_clauses};
 ghost use Rattle.clause_list.specs.WholeList.{apart_of_all, train_at};
-ghost use Rattle.clause_encoder.specs.Writing.{AreClauses, Takes, IsCause};
+ghost use Rattle.clause_encoder.specs.Writing.{AreClauses, Takes, IsCause, literal_count};
 ghost use Rattle.clause_encoder.specs.PairFitting.{AreOverCells, AllOverCells};
 
 use crate::literals::{is, is_not};
@@ -165,15 +166,32 @@ impl<'a> Part for ApartFrom<'a> {
 
     #[tactic(auto, unfolding(clause_list::specs::PairClauses::apart_from))]
     fn write(&self, _place: usize, cell: u32, writer: &mut ClauseWriter) -> Result<(), WriteFault> {
-        let of_two = Apart {
-            net: self.net,
-            one: self.one,
-            other: self.other,
-            step: self.step,
-            cell,
-        };
-        write_each(&of_two, self.net.section_of(cell), writer)
+        let cells = self.net.section_of(cell);
+        if writer.keeps() {
+            let of_two = Apart {
+                net: self.net,
+                one: self.one,
+                other: self.other,
+                step: self.step,
+                cell,
+            };
+            write_each(&of_two, cells, writer)
+        } else {
+            let _few = self.net.cell_count();
+            count_apart(cells.len() as u32, writer)
+        }
     }
+}
+
+// Counts the clauses of a cell of the first train and each cell of its section: each has three literals, but for the one of the
+// cell itself, which has two.
+fn count_apart(cells: u32, writer: &mut ClauseWriter) -> Result<(), WriteFault>
+    requires counts { writer.old.keeps ≡ false }
+    requires some { 1 ≤ cells }
+    ensures ok { (list : List (List Lit)) → length list ≡ cells → literal_count list + 1 ≡ 3 * cells → OnOk result (Takes writer.old list writer.new) }
+    ensures err { (list : List (List Lit)) → length list ≡ cells → IfErr result (IsCause writer.old list) }
+{
+    writer.take_counted(cells, 3 * u64::from(cells) - 1)
 }
 
 // by cell of the other train

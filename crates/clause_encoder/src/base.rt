@@ -110,7 +110,6 @@ fn base_formula<M: Moves>(
 {
     base_fits(inst, tables, numbers, vars);
     let list = BaseList {
-        alloc,
         inst,
         tables,
         numbers,

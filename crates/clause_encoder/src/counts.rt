@@ -1,5 +1,5 @@
 //! The counter of borders, and how many of them stand at most.
-ghost use Rattle.std.specs.Prelude.{◌≡◌, ◌<◌, ◌≤◌, ◌+◌, length, OnOk, IfOk, IfErr};
+ghost use Rattle.std.specs.Prelude.{◌≡◌, ◌<◌, ◌≤◌, ◌+◌, OnOk, IfOk, IfErr};
 ghost use Rattle.border_counter.specs.Counter.{sum_to, at_least_var, counter_clauses};
 ghost use Rattle.clause_list.specs.BorderClauses.{border_lits, most_clauses};
 ghost use Rattle.clause_encoder.specs.Writing.{AreClauses, Takes, IsCause};

@@ -101,7 +101,6 @@ fn given_formula<M: Moves>(
 {
     given_fits(inst, tables, numbers, layout);
     let list = GivenList {
-        alloc,
         inst,
         tables,
         numbers,

@@ -2,7 +2,6 @@
 ghost use Rattle.std.specs.Prelude.{◌≡◌, ◌<◌, ◌≤◌, ◌+◌, OnOk, IfErr};
 ghost use Rattle.clause_list.specs.RunClauses.{stay_ended_clauses, gone_clauses};
 ghost use Rattle.clause_encoder.specs.Writing.{AreClauses, Takes, IsCause};
-ghost use Rattle.clause_encoder.specs.TrainStore.{IsKeptTrain};
 
 use crate::literals::{is, is_not};
 use crate::part::{Part, write_each, write_range};

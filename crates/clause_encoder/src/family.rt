@@ -1,5 +1,5 @@
 //! The families of one train, and each of them for all trains.
-ghost use Rattle.std.specs.Prelude.{◌≡◌, ◌<◌, ◌≤◌, ◌^◌, length, slice_index_or, OnOk, IfErr};
+ghost use Rattle.std.specs.Prelude.{◌≡◌, ◌<◌, length, slice_index_or, OnOk, IfErr};
 ghost use Rattle.clause_list.specs.WholeList.{of_each_train, train_at};
 ghost use Rattle.clause_encoder.specs.Writing.{AreClauses, Takes, IsCause};
 ghost use Rattle.clause_encoder.specs.TableLists.{tables_of};

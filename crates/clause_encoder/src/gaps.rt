@@ -1,13 +1,12 @@
 //! The clauses of gaps: a border on each walk between two cells of a section.
-ghost use Rattle.std.specs.Prelude.{◌≡◌, ◌<◌, ◌∷◌, [], All, length, map, slice_index_or, OnOk, IfErr};
+ghost use Rattle.std.specs.Prelude.{◌≡◌, ◌<◌, [], All, length, slice_index_or, OnOk, IfErr};
 ghost use Rattle.std.specs.List.{flat_map};
 ghost use Rattle.cell_net.specs.declared.ids.CandidateId.{CandidateId};
-ghost use Rattle.clause_list.specs.Numbers.{is_not as is_not_lit};
 ghost use Rattle.clause_list.specs.BorderClauses.{gap_clauses as gap_clauses_of};
 ghost use Rattle.clause_list.specs.Coding.{walks_in};
 ghost use Rattle.clause_list.specs.Orders.{AreWalksOver};
-ghost use Rattle.clause_encoder.specs.Writing.{AreClauses, Takes, Adds, IsCause};
-ghost use Rattle.clause_encoder.specs.WalkFitting.{AreFew, border_lit, on_walk, on_walk_alone};
+ghost use Rattle.clause_encoder.specs.Writing.{AreClauses, Takes, IsCause};
+ghost use Rattle.clause_encoder.specs.WalkFitting.{AreFew, on_walk, on_walk_alone};
 
 use crate::literals::{is, is_not};
 use crate::network::NetworkNumbers;
@@ -15,12 +14,12 @@ use crate::part::{Part, write_each, write_range};
 use crate::writer::{ClauseWriter, WriteFault};
 use cell_net::{CandidateId, CellId};
 use gap_clauses::Gaps;
-use std::alloc::Global;
+use sat_core::Lit;
+use std::alloc::AllocError;
 
 /// Writes the clauses by which a gap has a border on each walk between its cells.
 #[tactic(auto, unfolding(clause_list::specs::BorderClauses::gap_clauses))]
 pub(crate) fn write_gaps(
-    alloc: Global,
     net: &NetworkNumbers,
     gaps: &Gaps,
     writer: &mut ClauseWriter,
@@ -30,14 +29,13 @@ pub(crate) fn write_gaps(
     ensures ok { OnOk result (Takes writer.old (gap_clauses_of (walks_in gaps.now) net.now) writer.new) }
     ensures err { IfErr result (IsCause writer.old (gap_clauses_of (walks_in gaps.now) net.now)) }
 {
-    let from = BordersFrom { alloc, net, gaps };
+    let from = BordersFrom { net, gaps };
     write_range(&from, 0, net.cell_count(), writer)
 }
 
 // by the lower cell
 #[derive(Drop)]
 struct BordersFrom<'a> {
-    alloc: Global,
     net: &'a NetworkNumbers,
     gaps: &'a Gaps,
 }
@@ -55,7 +53,6 @@ impl<'a> Part for BordersFrom<'a> {
     #[tactic(auto, unfolding(clause_list::specs::BorderClauses::borders_from))]
     fn write(&self, _place: usize, cell: u32, writer: &mut ClauseWriter) -> Result<(), WriteFault> {
         let between = BordersBetween {
-            alloc: self.alloc,
             net: self.net,
             gaps: self.gaps,
             cell,
@@ -67,7 +64,6 @@ impl<'a> Part for BordersFrom<'a> {
 // by the other
 #[derive(Drop)]
 struct BordersBetween<'a> {
-    alloc: Global,
     net: &'a NetworkNumbers,
     gaps: &'a Gaps,
     cell: u32,
@@ -92,13 +88,12 @@ impl<'a> Part for BordersBetween<'a> {
     ) -> Result<(), WriteFault> {
         let number = self.net.gap(self.cell, other);
         let _few = self.net.candidate_count();
-        write_walks(self.alloc, self.gaps, self.cell, other, number, writer)
+        write_walks(self.gaps, self.cell, other, number, writer)
     }
 }
 
 // Writes the clause of each walk between two cells, where the gap has that number.
 fn write_walks(
-    alloc: Global,
     gaps: &Gaps,
     cell: u32,
     other: u32,
@@ -111,7 +106,7 @@ fn write_walks(
     ensures err { IfErr result (IsCause writer.old (flat_map (on_walk_alone number) (walks_in gaps.now cell other))) }
 {
     for walk in 0..gaps.walk_count(CellId(cell), CellId(other)) {
-        match write_walk(alloc, gaps, cell, other, walk, number, writer) {
+        match write_walk(gaps, cell, other, walk, number, writer) {
             Ok(()) => {}
             Err(fault) => return Err(fault),
         }
@@ -122,7 +117,6 @@ fn write_walks(
 // Writes the clause of that walk.
 #[tactic(auto, unfolding(crate::specs::Writing::IsCause))]
 fn write_walk(
-    alloc: Global,
     gaps: &Gaps,
     cell: u32,
     other: u32,
@@ -136,46 +130,51 @@ fn write_walk(
     ensures ok { OnOk result (Takes writer.old (on_walk_alone number (slice_index_or (walks_in gaps.now cell other) walk [])) writer.new) }
     ensures err { IfErr result (IsCause writer.old (on_walk_alone number (slice_index_or (walks_in gaps.now cell other) walk []))) }
 {
-    match put_walk(alloc, gaps, cell, other, walk, number, writer) {
-        Ok(()) => writer.finish(),
-        Err(_) => Err(WriteFault::Memory),
+    if writer.keeps() {
+        match writer.put_walk(gaps, cell, other, walk, number) {
+            Ok(()) => writer.finish(),
+            Err(_) => Err(WriteFault::Memory),
+        }
+    } else {
+        let candidates = gaps.candidate_count(CellId(cell), CellId(other), walk);
+        writer.take_counted(1, u64::from(candidates) + 1)
     }
 }
 
-// Puts the clause together.
+impl ClauseWriter {
+    // Puts the clause of that walk together.
+    fn put_walk(
+        &mut self,
+        gaps: &Gaps,
+        cell: u32,
+        other: u32,
+        walk: u32,
+        number: u32,
+    ) -> Result<(), AllocError>
+        requires within { walk < length (walks_in gaps.now cell other) }
+        requires few { AreFew (slice_index_or (walks_in gaps.now cell other) walk []) }
+        ensures ok { OnOk result (self.new ≡ record self.old { open_lits = on_walk number (slice_index_or (walks_in gaps.now cell other) walk []) }) }
+    {
+        self.candidates.clear();
+        gaps.put_walk(CellId(cell), CellId(other), walk, &mut self.candidates)?;
+        put_borders(number, &self.candidates, &mut self.clause)
+    }
+}
+
+// Makes the clause: not the gap of that number, or a border at one of the candidates.
 #[tactic(auto, unfolding(crate::specs::WalkFitting::on_walk))]
-fn put_walk(
-    alloc: Global,
-    gaps: &Gaps,
-    cell: u32,
-    other: u32,
-    walk: u32,
+fn put_borders(
     number: u32,
-    writer: &mut ClauseWriter,
-) -> Result<(), WriteFault>
-    requires within { walk < length (walks_in gaps.now cell other) }
-    requires few { AreFew (slice_index_or (walks_in gaps.now cell other) walk []) }
-    ensures ok { OnOk result (writer.new ≡ record writer.old { open_lits = on_walk number (slice_index_or (walks_in gaps.now cell other) walk []) }) }
-    ensures err { IfErr result (λ fault. fault ≡ WriteFault.Memory) }
-{
-    let mut candidates = Vec::new(alloc);
-    match gaps.put_walk(CellId(cell), CellId(other), walk, &mut candidates) {
-        Ok(()) => {}
-        Err(_) => return Err(WriteFault::Memory),
-    }
-    writer.start();
-    writer.add(is_not(number))?;
-    add_borders(&candidates, writer)
-}
-
-// Adds the borders of the candidates.
-fn add_borders(candidates: &[CandidateId], writer: &mut ClauseWriter) -> Result<(), WriteFault>
+    candidates: &[CandidateId],
+    clause: &mut Vec<Lit>,
+) -> Result<(), AllocError>
     requires { AreFew candidates.now }
-    ensures ok { OnOk result (Adds writer.old (map border_lit candidates.now) writer.new) }
-    ensures err { IfErr result (λ fault. fault ≡ WriteFault.Memory) }
+    ensures { OnOk result (clause.new.items ≡ on_walk number candidates.now) }
 {
+    clause.clear();
+    clause.push(is_not(number))?;
     for place in 0..candidates.len() {
-        writer.add(is(candidates[place].0 + 1))?;
+        clause.push(is(candidates[place].0 + 1))?;
     }
     Ok(())
 }

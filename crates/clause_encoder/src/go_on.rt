@@ -1,7 +1,6 @@
 //! The clauses by which a run goes on: after an item comes one of those that may, or it is a goal and the run ends.
-ghost use Rattle.std.specs.Prelude.{◌≡◌, ◌<◌, ◌≤◌, ◌++◌, ◌∷◌, [], ◌+◌, Bool, All, filter, map, length, slice_index, take, OnOk, IfErr};
-ghost use Rattle.std.specs.List.{list_any};
-ghost use Rattle.clause_list.specs.Numbers.{cone, sweep, run_ended, is as is_lit};
+ghost use Rattle.std.specs.Prelude.{◌≡◌, ◌<◌, ◌≤◌, ◌∷◌, [], ◌+◌, length, slice_index, OnOk, IfErr};
+ghost use Rattle.clause_list.specs.Numbers.{cone, sweep, is as is_lit};
 ghost use Rattle.clause_list.specs.RunClauses.{go_on, go_on_clauses, where_, followers};
 ghost use Rattle.clause_encoder.specs.Writing.{AreClauses, Takes, Adds, IsCause};
 ghost use Rattle.clause_encoder.specs.Fitting.{Fits};

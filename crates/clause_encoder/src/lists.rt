@@ -1,11 +1,11 @@
 //! The lists of tasks, written whole.
-ghost use Rattle.std.specs.Prelude.{◌≡◌, ◌<◌, ◌≤◌, ◌+◌, OnOk, IfErr};
+ghost use Rattle.std.specs.Prelude.{◌<◌, ◌≤◌, ◌+◌, OnOk, IfErr};
 ghost use Rattle.border_counter.specs.Counter.{sum_to};
 ghost use Rattle.clause_list.specs.BorderClauses.{most_clauses};
-ghost use Rattle.clause_encoder.specs.Writing.{AreClauses, Takes, IsCause};
+ghost use Rattle.clause_encoder.specs.Writing.{Takes, IsCause};
 ghost use Rattle.clause_encoder.specs.TableLists.{tables_of};
 ghost use Rattle.clause_encoder.specs.Plans.{base_list, counted_list};
-ghost use Rattle.clause_encoder.specs.PlanFits.{PlanFits, FitsBase, FitsCount};
+ghost use Rattle.clause_encoder.specs.PlanFits.{FitsBase, FitsCount};
 
 use crate::at_least::at_least_number;
 use crate::borders::{write_given, write_kept};
@@ -21,7 +21,6 @@ use sweep_table::Moves;
 /// The list of the task of a layout.
 #[derive(Drop)]
 pub(crate) struct GivenList<'a, M> {
-    pub(crate) alloc: Global,
     pub(crate) inst: &'a Instance,
     pub(crate) tables: &'a [M],
     pub(crate) numbers: &'a Numbers,
@@ -41,7 +40,7 @@ impl<'a, M: Moves> Listing for GivenList<'a, M> {
 
     fn write(&self, _keeps: bool, writer: &mut ClauseWriter) -> Result<(), WriteFault> {
         match write_given(&self.numbers.net, self.layout, writer) {
-            Ok(()) => write_plan(self.alloc, self.inst, self.tables, self.numbers, writer),
+            Ok(()) => write_plan(self.inst, self.tables, self.numbers, writer),
             Err(fault) => Err(fault),
         }
     }
@@ -50,7 +49,6 @@ impl<'a, M: Moves> Listing for GivenList<'a, M> {
 /// The list of a free task without its counter and its bound.
 #[derive(Drop)]
 pub(crate) struct BaseList<'a, M> {
-    pub(crate) alloc: Global,
     pub(crate) inst: &'a Instance,
     pub(crate) tables: &'a [M],
     pub(crate) numbers: &'a Numbers,
@@ -68,13 +66,12 @@ impl<'a, M: Moves> Listing for BaseList<'a, M> {
     ghost fits = { λ p vars. FitsBase M.items M.table p.inst.now p.tables.now p.numbers.now.net p.numbers.now.gaps p.numbers.now.trains.items vars };
 
     fn write(&self, _keeps: bool, writer: &mut ClauseWriter) -> Result<(), WriteFault> {
-        write_base(self.alloc, self.inst, self.tables, self.numbers, writer)
+        write_base(self.inst, self.tables, self.numbers, writer)
     }
 }
 
 // Writes the families of a free task but its counter and its bound.
 fn write_base<M: Moves>(
-    alloc: Global,
     inst: &Instance,
     tables: &[M],
     numbers: &Numbers,
@@ -85,7 +82,7 @@ fn write_base<M: Moves>(
     ensures err { IfErr result (IsCause writer.old (base_list numbers.now.gaps numbers.now.net (tables_of M.table inst.now tables.now) numbers.now.trains.items)) }
 {
     match write_kept(&numbers.net, writer) {
-        Ok(()) => write_plan(alloc, inst, tables, numbers, writer),
+        Ok(()) => write_plan(inst, tables, numbers, writer),
         Err(fault) => Err(fault),
     }
 }
@@ -136,7 +133,7 @@ fn write_counted<M: Moves>(
     ensures ok { OnOk result (Takes writer.old (counted_list numbers.now.gaps numbers.now.net (tables_of M.table inst.now tables.now) numbers.now.trains.items numbers.now.behind) writer.new) }
     ensures err { IfErr result (IsCause writer.old (counted_list numbers.now.gaps numbers.now.net (tables_of M.table inst.now tables.now) numbers.now.trains.items numbers.now.behind)) }
 {
-    match write_base(alloc, inst, tables, numbers, writer) {
+    match write_base(inst, tables, numbers, writer) {
         Ok(()) => write_count(alloc, numbers.net.candidate_count(), numbers.behind, writer),
         Err(fault) => Err(fault),
     }

@@ -1,6 +1,5 @@
 //! Marks of the items of a table that lie ahead at a step, or lead home from it.
-ghost use Rattle.std.specs.Prelude.{◌≡◌, ◌<◌, ◌≤◌, ◌+◌, ◌^◌, map, IfOk};
-ghost use Rattle.sweep_table.specs.Tables.{Table};
+ghost use Rattle.std.specs.Prelude.{◌≡◌, ◌<◌, ◌+◌, map, IfOk};
 ghost use Rattle.clause_list.specs.Ranges.{from_below};
 ghost use Rattle.clause_list.specs.Cones.{home, is_ahead_by, leads_home_by, ahead_after, home_before, has_marked};
 

@@ -1,5 +1,5 @@
 //! The numbers of a network's variables: of its borders and of the gaps between its cells.
-ghost use Rattle.std.specs.Prelude.{◌≡◌, ◌<◌, ◌≤◌, ◌+◌, ◌^◌, ◌++◌, ◌∷◌, [], length, map, filter, drop, slice_index, OnOk, IfOk};
+ghost use Rattle.std.specs.Prelude.{◌≡◌, ◌<◌, ◌≤◌, ◌+◌, ◌++◌, ◌∷◌, [], length, map, filter, drop, slice_index, OnOk, IfOk};
 ghost use Rattle.std.specs.Prelude.{All, nat_eq};
 ghost use Rattle.std.specs.List.{position_or_len};
 ghost use Rattle.clause_list.specs.Ranges.{below};

@@ -1,5 +1,5 @@
 //! The families of gaps and trains, in their order.
-ghost use Rattle.std.specs.Prelude.{◌≡◌, ◌<◌, OnOk, IfErr};
+ghost use Rattle.std.specs.Prelude.{◌<◌, OnOk, IfErr};
 ghost use Rattle.clause_list.specs.WholeList.{of_each_train};
 ghost use Rattle.clause_encoder.specs.Writing.{AreClauses, Takes, IsCause};
 ghost use Rattle.clause_encoder.specs.TableLists.{tables_of};
@@ -14,22 +14,18 @@ use crate::numbers::Numbers;
 use crate::part::{Part, write_range};
 use crate::writer::{ClauseWriter, WriteFault};
 use cell_net::Instance;
-use std::alloc::Global;
 use sweep_table::Moves;
 
 /// What the families of gaps and trains are written from.
 #[derive(Drop)]
 pub(crate) struct Plan<'a, M> {
-    pub(crate) alloc: Global,
     pub(crate) inst: &'a Instance,
     pub(crate) tables: &'a [M],
     pub(crate) numbers: &'a Numbers,
 }
 
 /// Writes the families of gaps and trains.
-
 pub(crate) fn write_plan<M: Moves>(
-    alloc: Global,
     inst: &Instance,
     tables: &[M],
     numbers: &Numbers,
@@ -41,7 +37,6 @@ pub(crate) fn write_plan<M: Moves>(
     ensures err { IfErr result (IsCause writer.old (plan_list numbers.now.gaps numbers.now.net (tables_of M.table inst.now tables.now) numbers.now.trains.items)) }
 {
     let plan = Plan {
-        alloc,
         inst,
         tables,
         numbers,
@@ -68,7 +63,7 @@ impl<'a, M: Moves> Part for Plan<'a, M> {
     ) -> Result<(), WriteFault> {
         let (net, trains) = (&self.numbers.net, self.numbers.trains.as_slice());
         match number {
-            0 => write_gaps(self.alloc, net, &self.numbers.gaps, writer),
+            0 => write_gaps(net, &self.numbers.gaps, writer),
             1 => self.write_trains(TrainFamily::Enter, writer),
             2 => self.write_trains(TrainFamily::GoOn, writer),
             3 => self.write_trains(TrainFamily::StayEnded, writer),

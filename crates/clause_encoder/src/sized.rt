@@ -1,5 +1,5 @@
 //! A list of clauses is counted before one of them is kept.
-ghost use Rattle.std.specs.Prelude.{◌≡◌, ◌<◌, ◌≤◌, ◌+◌, ℕ, List, cond, length, OnOk, IfOk, IfErr};
+ghost use Rattle.std.specs.Prelude.{◌≡◌, ◌≤◌, ◌+◌, ℕ, List, cond, length, OnOk, IfOk, IfErr};
 ghost use Rattle.sat_core.specs.declared.literal.Lit.{Lit};
 ghost use Rattle.clause_encoder.specs.declared.limits.TheConstants.{CLAUSES, LITERALS};
 ghost use Rattle.clause_encoder.specs.Writing.{Takes, IsCause, literal_count};

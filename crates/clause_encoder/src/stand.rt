@@ -1,5 +1,5 @@
 //! The clauses that a train stands in the station while it meets a stop.
-ghost use Rattle.std.specs.Prelude.{◌≡◌, ◌<◌, ◌≤◌, ◌^◌, ◌+◌, ◌-◌, length, OnOk, IfErr};
+ghost use Rattle.std.specs.Prelude.{◌≡◌, ◌<◌, ◌≤◌, ◌^◌, ◌+◌, length, OnOk, IfErr};
 ghost use Rattle.clause_list.specs.StopClauses.{stand_clauses};
 ghost use Rattle.clause_encoder.specs.Writing.{AreClauses, Takes, IsCause};
 ghost use Rattle.clause_encoder.specs.Fitting.{Fits, HasStations};

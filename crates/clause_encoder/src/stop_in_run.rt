@@ -1,5 +1,5 @@
 //! The clauses that a stop is met by a run that has entered and not ended.
-ghost use Rattle.std.specs.Prelude.{◌≡◌, ◌<◌, ◌≤◌, ◌^◌, ◌+◌, ◌-◌, length, OnOk, IfErr};
+ghost use Rattle.std.specs.Prelude.{◌<◌, ◌≤◌, ◌^◌, ◌+◌, ◌-◌, length, OnOk, IfErr};
 ghost use Rattle.clause_list.specs.StopClauses.{stop_in_run_clauses, stop_after_entry_clauses};
 ghost use Rattle.clause_encoder.specs.Writing.{AreClauses, Takes, IsCause};
 

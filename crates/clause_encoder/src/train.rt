@@ -1,9 +1,9 @@
 //! The numbers of a train's variables.
-ghost use Rattle.std.specs.Prelude.{◌≡◌, ◌+◌, ◌-◌, ◌<◌, ◌≤◌, ◌^◌, ℕ, length, slice_index, nat_eq, min, max, true, false, IsNone, OnSome, IfSome};
+ghost use Rattle.std.specs.Prelude.{◌≡◌, ◌+◌, ◌-◌, ◌<◌, ◌≤◌, length, slice_index, nat_eq, min, max, true, false, IsNone, OnSome, IfSome};
 ghost use Rattle.std.specs.List.{list_any};
-ghost use Rattle.clause_list.specs.Numbers.{CodedTrain, cone, sweep, touch, run_ended, waits, beginnings, behind_train};
+ghost use Rattle.clause_list.specs.Numbers.{CodedTrain, cone, sweep, touch, run_ended, waits, behind_train};
 ghost use Rattle.clause_list.specs.StopClauses.{stop_at, meets};
-ghost use Rattle.clause_encoder.specs.TrainStore.{IsRising, IsKeptTrain, first_of_step, first_of_stop};
+ghost use Rattle.clause_encoder.specs.TrainStore.{IsRising, IsKeptTrain};
 
 use crate::place::place_in;
 use cell_net::StopSpec;

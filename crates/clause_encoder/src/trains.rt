@@ -1,8 +1,8 @@
 //! The numbers of all trains, of each behind those of the one before.
-ghost use Rattle.std.specs.Prelude.{◌≡◌, ◌<◌, ◌≤◌, ◌+◌, ◌++◌, ◌∷◌, [], length, IfOk, IfErr, OnOk};
+ghost use Rattle.std.specs.Prelude.{◌≡◌, ◌≤◌, ◌+◌, length, IfOk, IfErr};
 ghost use Rattle.clause_list.specs.Coding.{coded_from, behind_all};
 ghost use Rattle.clause_encoder.specs.declared.limits.TheConstants.{VARIABLES};
-ghost use Rattle.clause_encoder.specs.TrainFaults.{IsNumberFault, IsInWindow};
+ghost use Rattle.clause_encoder.specs.TrainFaults.{IsNumberFault};
 ghost use Rattle.clause_encoder.specs.TableLists.{tables_of, AreMadeFor};
 
 use crate::build::NumberFault;

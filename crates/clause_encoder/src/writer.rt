@@ -1,12 +1,13 @@
 //! The writer: it takes clauses one after another, counts them, and keeps them if asked to.
-ghost use Rattle.std.specs.Prelude.{◌≡◌, ◌+◌, ◌-◌, ◌^◌, ◌<◌, ◌≤◌, ◌++◌, ◌∷◌, [], true, false, length, OnOk, OnErr, IfErr, IfOk};
+ghost use Rattle.std.specs.Prelude.{◌≡◌, ◌+◌, ◌-◌, ◌*◌, ◌^◌, ◌<◌, ◌≤◌, ◌++◌, ◌∷◌, [], List, true, false, length, OnOk, OnErr, IfErr, IfOk};
 ghost use Rattle.std.specs.Prelude.{All, sum_by};
 ghost use Rattle.sat_core.specs.declared.literal.Lit.{Lit};
 ghost use Rattle.sat_core.specs.Clauses.{IsOver};
 ghost use Rattle.border_counter.specs.Counter.{sum_to, counter_clauses};
-ghost use Rattle.clause_encoder.specs.Writing.{AreClauses, Writing, Takes, Adds, IsCause};
+ghost use Rattle.clause_encoder.specs.Writing.{AreClauses, Writing, Takes, Adds, IsCause, literal_count};
 
 use border_counter::{CounterSize, add_counter, counter_size};
+use cell_net::CandidateId;
 use sat_core::{Formula, Lit};
 use std::alloc::{AllocError, Global};
 use std::marker::Model;
@@ -26,8 +27,9 @@ pub struct ClauseWriter {
     most: u32,
     count: u32,
     lits: u64,
-    // the clause that is being put together
-    clause: Vec<Lit>,
+    // the clause that is being put together, and the candidates of the walk that it is put together from
+    pub(crate) clause: Vec<Lit>,
+    pub(crate) candidates: Vec<CandidateId>,
 }
 
 impl Model for ClauseWriter {
@@ -63,7 +65,15 @@ impl ClauseWriter {
             count: 0,
             lits: 0,
             clause: Vec::new(alloc),
+            candidates: Vec::new(alloc),
         })
+    }
+
+    /// Whether it keeps the clauses that it takes.
+    pub fn keeps(&self) -> bool
+        ensures { result ≡ self.now.keeps }
+    {
+        self.keeps
     }
 
     /// How many clauses it has taken.
@@ -125,6 +135,22 @@ impl ClauseWriter {
         }
         self.count += 1;
         self.lits = total;
+        Ok(())
+    }
+
+    /// Takes clauses that it only counts: so many, with so many literals together.
+    #[tactic(auto, unfolding(crate::specs::Writing::IsCause))]
+    pub fn take_counted(&mut self, clauses: u32, lits: u64) -> Result<(), WriteFault>
+        requires counts { self.old.keeps ≡ false }
+        requires lits { lits ≤ clauses * 2 ^ 32 }
+        ensures ok { (list : List (List Lit)) → length list ≡ clauses → literal_count list ≡ lits → OnOk result (Takes self.old list self.new) }
+        ensures err { (list : List (List Lit)) → length list ≡ clauses → IfErr result (IsCause self.old list) }
+    {
+        if clauses > self.most - self.count {
+            return Err(WriteFault::Full);
+        }
+        self.count += clauses;
+        self.lits += lits;
         Ok(())
     }
 

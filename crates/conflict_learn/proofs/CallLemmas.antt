@@ -1,26 +1,20 @@
 -- The steps of learning in the words of the calls that take them.
-use Rattle.std.proofs.Common.{◌≡◌, ◌≢◌, ℕ, ◌+◌, ◌-◌, ◌<◌, ◌≤◌, Bool, true, false, cond, ◌&&◌, ◌⊎◌, inl, inr, List, [], ◌∷◌, ◌++◌, length, map, take, get_or, set, max, refl, ap, sym, subst, ◌∙◌, arith}
-use Rattle.std.specs.Prelude.{All, Any, Contains, reverse, nat_eq, find, option_map, Some, None}
-use Rattle.std.proofs.lemmas.Bool.{cases_eq, cases_lt, cases_Bool, eq-eqb}
-use Rattle.std.proofs.lemmas.List.{get_or_default, get_or-set_same, get_or-set_other, length-set, get_or_append_left, length-map, get_or-map, reverse-append, length-append, get_or-append-add, length-take}
+use Rattle.std.proofs.Common.{◌≡◌, ◌≢◌, ℕ, ◌+◌, ◌-◌, ◌<◌, ◌≤◌, Bool, true, false, cond, inl, inr, List, [], ◌∷◌, ◌++◌, length, map, take, get_or, max, ap, sym, subst, ◌∙◌, arith}
+use Rattle.std.specs.Prelude.{All, nat_eq, find, option_map, Some, None}
+use Rattle.std.proofs.lemmas.List.{get_or_default, length-map, get_or-map, length-take}
 use Rattle.std.proofs.lemmas.List.Sums.{count_by-le-length}
-use Rattle.std.proofs.lemmas.List.Elements.{All-push, All-nil, All-append, All-head, All-tail}
-use Rattle.std.proofs.lemmas.List.Quantifiers.{all_pairs_push, Any-push}
-use mir.Val.{bool_byte}
+use Rattle.std.proofs.lemmas.List.Elements.{All-head, All-tail}
 use Rattle.sat_core.specs.declared.literal.Lit.{Lit}
 use Rattle.sat_core.specs.declared.literal.ClauseId.{ClauseId}
 use Rattle.sat_core.specs.Clauses.{negated, IsOver, IsClause}
-use Rattle.sat_core.specs.Hints.{NumberedClause, clause_of, is_same, is_known}
-use Rattle.sat_core.proofs.LiteralLaws.{negated-negated, is_same-true, is_same-refl}
+use Rattle.sat_core.specs.Hints.{NumberedClause, clause_of, is_known}
 use Rattle.search_trail.specs.declared.entry.Entry.{Entry}
-use Rattle.search_trail.specs.Trails.{TrailParts, IsTrail, known_of, up_to}
+use Rattle.search_trail.specs.Trails.{TrailParts, IsTrail, known_of}
 use Rattle.search_trail.specs.Reasons.{IsReason, ReasonFits, AreReasons}
 use Rattle.sat_core.proofs.OpenLaws.{place_of_known, distinct_below}
-use Rattle.conflict_learn.specs.Learning.{IsLearnedFrom, IsConflict}
-use Rattle.conflict_learn.specs.Working.{IsMarked, LeadsOn, IsCutFrom, AreMarkedBelow, is_pending, pending, IsWorking, StandsBelow, MarksOf, IsKeptBack, IsResolved, IsPlaceToResolve, IsOnTrail}
-use Rattle.conflict_learn.proofs.HintOrder.{leads_resolve, leads_keep, leads_pass, leads_start, leads_finish, front_has}
-use Rattle.search_trail.proofs.LevelLaws.{up_to-at, up_to-more}
-use Rattle.conflict_learn.proofs.PendingLemmas.{index_of, DistinctIndex, apart-eqb, pending-yes, pending-no, pending-positive, pending-find, pending-mark_here, pending-mark_other}
+use Rattle.conflict_learn.specs.Learning.{IsConflict}
+use Rattle.conflict_learn.specs.Working.{is_pending, pending, IsWorking, MarksOf, IsKeptBack, IsResolved, IsPlaceToResolve, IsOnTrail}
+use Rattle.conflict_learn.proofs.HintOrder.{front_has}
 use Rattle.conflict_learn.proofs.WorkLemmas.{some_same, some_not_none, work_pass, work_keep_present, work_keep_low, lit_cases, work_resolve, work_start}
 
 pub place_assigned : (live : List NumberedClause) (t : TrailParts) (place : ℕ) (lit : Lit) → IsPlaceToResolve live t place lit → IsOnTrail t lit

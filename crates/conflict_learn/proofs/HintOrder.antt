@@ -2,7 +2,7 @@
 use Rattle.std.proofs.Common.{◌≡◌, ◌≢◌, ℕ, zero, suc, ◌+◌, ◌-◌, ◌<◌, Bool, true, false, cond, not, ◌||◌, ◌⊎◌, inl, inr, List, [], ◌∷◌, ◌++◌, length, map, take, get_or, refl, ap, sym, subst, ◌∙◌, arith}
 use Rattle.std.specs.Prelude.{All, AllPairs, Contains, Option, Some, None, filter, min}
 use Rattle.std.proofs.lemmas.Bool.{cases_eq, cases_lt, or_cases}
-use Rattle.std.proofs.lemmas.List.{length_push, get_or_append_left, get_or-map, length-map, take_more, length-take, length-take-le, get_or_default, map_push, get_or-take, take_all}
+use Rattle.std.proofs.lemmas.List.{length_push, get_or_append_left, get_or-map, length-map, take_more, length-take, get_or_default, map_push, get_or-take}
 use Rattle.std.proofs.lemmas.List.Elements.{All-push, All-head, All-tail}
 use Rattle.std.proofs.lemmas.List.Folds.{list_any-append}
 use Rattle.std.proofs.Math.Bool.{or-true}
@@ -10,7 +10,7 @@ use Rattle.sat_core.specs.declared.literal.Lit.{Lit}
 use Rattle.sat_core.specs.declared.literal.ClauseId.{ClauseId}
 use Rattle.sat_core.specs.declared.step_fault.StepFault.{StepFault}
 use Rattle.sat_core.specs.Clauses.{negated, HasNoVariableTwice}
-use Rattle.sat_core.specs.Hints.{NumberedClause, clause_of, is_same, is_known, not_false, HintOutcome, conflict, unit, outcome_by, outcome_of, fault_after, hints_fault}
+use Rattle.sat_core.specs.Hints.{NumberedClause, clause_of, is_same, is_known, not_false, unit, outcome_by, outcome_of, fault_after, hints_fault}
 use Rattle.sat_core.proofs.LiteralLaws.{is_same-true, is_same-refl, is_known-push, negated-negated}
 use Rattle.search_trail.specs.declared.entry.Entry.{Entry}
 use Rattle.search_trail.specs.Trails.{known_of}

@@ -1,9 +1,8 @@
 //! From the conflict down the trail of the present level to the first unique implication point.
-ghost use Rattle.std.specs.Prelude.{◌≡◌, ℕ, ◌+◌, ◌-◌, ◌<◌, ◌≤◌, All, IfOk, OnOk, length, reverse, true, false, Some, None, slice_index_or};
-ghost use Rattle.sat_core.specs.Clauses.{IsClause, IsOver};
+ghost use Rattle.std.specs.Prelude.{◌≡◌, ℕ, ◌+◌, ◌-◌, All, IfOk, OnOk, length, reverse, true, false, Some, None, slice_index_or};
+ghost use Rattle.sat_core.specs.Clauses.{IsClause};
 ghost use Rattle.sat_core.specs.declared.literal.ClauseId.{ClauseId};
 ghost use Rattle.search_trail.specs.Reasons.{AreReasons};
-ghost use Rattle.search_trail.specs.declared.entry.Entry.{Entry};
 ghost use Rattle.conflict_learn.specs.Learning.{IsConflict, IsLearnedFrom};
 ghost use Rattle.conflict_learn.specs.Working.{IsWorkingOn, IsKeptBack, IsResolved, IsOnTrail, IsPlaceToResolve};
 

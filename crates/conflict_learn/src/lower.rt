@@ -4,7 +4,6 @@ ghost use Rattle.sat_core.specs.Clauses.{IsClause, IsOver};
 ghost use Rattle.std.specs.List.Sorted.{IsNonDecreasing};
 ghost use Rattle.search_trail.specs.Reasons.{AreReasons};
 ghost use Rattle.search_trail.specs.Trails.{IsTrail};
-ghost use Rattle.search_trail.specs.declared.entry.Entry.{Entry};
 ghost use Rattle.conflict_learn.specs.Working.{IsMarked, IsWorkingOn, IsPlaceToResolve, IsListed, IsTouchedAt, AreAllMarked, IsImplied};
 
 use crate::clauses::Clauses;

@@ -1,8 +1,6 @@
 //! Marks the variables of a clause, and counts those of the present level.
-ghost use Rattle.std.specs.Prelude.{◌≡◌, ◌+◌, ◌-◌, ◌^◌, ◌<◌, ◌≤◌, All, Any, length, take, [], ◌∷◌};
+ghost use Rattle.std.specs.Prelude.{◌≡◌, ◌^◌, ◌<◌, ◌≤◌, All, length, [], ◌∷◌};
 ghost use Rattle.sat_core.specs.declared.literal.Lit.{Lit};
-ghost use Rattle.sat_core.specs.Clauses.{IsOver};
-ghost use Rattle.search_trail.specs.Trails.{TrailParts};
 ghost use Rattle.conflict_learn.specs.Working.{MarksOf, IsOnTrail};
 
 use crate::marks::Marks;

@@ -1,5 +1,5 @@
 //! Marks of variables, which are undone by what was touched.
-ghost use Rattle.std.specs.Prelude.{◌≡◌, ℕ, ◌-◌, ◌≤◌, ◌<◌, true, false, IfOk, length, All, slice_index_or, slice_set, replicate};
+ghost use Rattle.std.specs.Prelude.{◌≡◌, ℕ, ◌-◌, ◌≤◌, true, false, IfOk, length, All, slice_index_or, slice_set, replicate};
 ghost use Rattle.conflict_learn.specs.Marks.{IsTouched, AreAmong};
 
 use sat_core::Var;

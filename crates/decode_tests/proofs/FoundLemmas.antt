@@ -1,5 +1,5 @@
 -- A valuation that satisfies the formula of a task may be decoded.
-use Rattle.std.proofs.Common.{◌≡◌, ◌∙◌, ◌<◌, ◌≤◌, ℕ, Bool, List, [], ◌∷◌, length, map, get_or, refl, subst, inl, inr, suc, arith}
+use Rattle.std.proofs.Common.{◌≡◌, ◌∙◌, ◌<◌, ℕ, Bool, List, [], ◌∷◌, length, map, get_or, refl, subst, inl, inr, suc, arith}
 use Rattle.std.specs.Prelude.{All, Option, Some, slice_get}
 use Rattle.std.specs.List.{AllZip}
 use Rattle.std.proofs.lemmas.List.Elements.{All-map}

@@ -1,5 +1,5 @@
 -- Laws of the text of a step: where it is missed, and that it has one reading.
-use Rattle.std.proofs.Common.{◌≡◌, ◌≢◌, ℕ, ◌<◌, List, [], ◌∷◌, ◌++◌, Bool, true, false, length, drop, refl, ap, sym, subst, ◌∙◌, arith, append_assoc, append-nil, length-append, codes}
+use Rattle.std.proofs.Common.{◌≡◌, ◌≢◌, ℕ, List, [], ◌∷◌, ◌++◌, length, drop, refl, ap, sym, subst, ◌∙◌, arith, append_assoc, append-nil, length-append}
 use Rattle.std.specs.Prelude.{All, slice_index, decimal}
 use Rattle.std.proofs.lemmas.List.Elements.{All-nil}
 use Rattle.sat_core.specs.declared.literal.Lit.{Lit}
@@ -11,7 +11,7 @@ use Rattle.vss_text.specs.declared.miss.Miss.TheVariants.{Short, Wrong}
 use Rattle.vss_text.proofs.ReadingLaws.{misses_first, misses_second, word_read_once, both_read_once}
 use Rattle.vss_text.proofs.NumberLaws.{number_read_once}
 use Rattle.derivation_log.specs.Text.{number_text, literal_text, list_text, step_text, IsLogNumber, IsInRange}
-use Rattle.derivation_log.specs.Tested.{IsListOf, IsList, IsTextOf, BeginsWithStep, IsFrontOfStep}
+use Rattle.derivation_log.specs.Tested.{IsList, IsTextOf, BeginsWithStep, IsFrontOfStep}
 use Rattle.derivation_log.specs.WordLaws.{id_no_zero, id_one_reading, literal_no_zero, literal_one_reading}
 use Rattle.derivation_log.specs.declared.list.ListText.{ListText}
 use Rattle.derivation_log.specs.declared.step.Step.{Step}

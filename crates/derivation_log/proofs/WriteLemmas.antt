@@ -1,5 +1,5 @@
 -- Laws of texts that are added to a line part after part.
-use Rattle.std.proofs.Common.{◌≡◌, ℕ, ◌+◌, ◌<◌, ◌≤◌, length, drop, get_or, sym, List, [], ◌∷◌, ◌++◌, ap, append_assoc, append-nil, ◌∙◌}
+use Rattle.std.proofs.Common.{◌≡◌, ℕ, ◌+◌, ◌<◌, ◌≤◌, length, drop, get_or, sym, List, [], ◌∷◌, ◌++◌, ap, append_assoc, ◌∙◌}
 use Rattle.std.specs.List.{flat_map}
 use Rattle.std.proofs.lemmas.List.{at_drop_more, drop_all}
 use Rattle.derivation_log.specs.Text.{list_text}

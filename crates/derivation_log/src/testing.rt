@@ -1,5 +1,5 @@
 //! The test of a text: whether it begins with a step, or ends within one.
-ghost use Rattle.std.specs.Prelude.{◌≡◌, ◌≢◌, ◌↔◌, ℕ, List, IfOk, IfErr, IsTrue, slice_index};
+ghost use Rattle.std.specs.Prelude.{◌≡◌, ◌≢◌, ◌↔◌, IfOk, IfErr, IsTrue, slice_index};
 ghost use Rattle.vss_text.specs.Reading.{Misses};
 ghost use Rattle.derivation_log.specs.Text.{step_text, IsInRange};
 ghost use Rattle.derivation_log.specs.Tested.{BeginsWithStep, IsFrontOfStep};

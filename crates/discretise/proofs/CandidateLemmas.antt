@@ -1,26 +1,23 @@
 -- The candidates rise, and each is a node that joins two cells of one section.
-use Rattle.std.proofs.Common.{◌≡◌, ◌≢◌, ◌+◌, ◌-◌, ◌<◌, ◌≤◌, ◌⊎◌, inl, inr, ℕ, zero, suc, Bool, true, false, List, [], ◌∷◌, ◌++◌, length, map, get_or, Some, slice_get, refl, sym, ap, subst, ◌∙◌, arith}
+use Rattle.std.proofs.Common.{◌≡◌, ◌≢◌, ◌+◌, ◌-◌, ◌<◌, ◌≤◌, ◌⊎◌, inl, inr, ℕ, zero, suc, Bool, true, false, List, [], ◌∷◌, ◌++◌, length, map, Some, slice_get, refl, sym, ap, subst, ◌∙◌, arith}
 use Rattle.std.specs.Prelude.{◌==◌, if◌then◌else◌}
 use Rattle.std.specs.List.{Contains, flat_map, range_with_len}
 use Rattle.std.proofs.lemmas.Bool.Decides.{eqb_tells}
 use Rattle.std.proofs.lemmas.List.Sums.{sum_by-cons}
-use Rattle.std.proofs.lemmas.List.Elements.{Contains-append_cases, Contains-get_or}
-use Rattle.std.proofs.lemmas.Option.{same_Some, slice_get_within, slice_get-get_or}
+use Rattle.std.proofs.lemmas.List.Elements.{Contains-append_cases}
+use Rattle.std.proofs.lemmas.Option.{same_Some, slice_get_within}
 use Rattle.vss_lists.specs.Breaks.{HoldsOfEach}
 use Rattle.cell_net.specs.Borders.{IsAboveLast, IsAtEnd, IsCellAt, IsInSection}
 use Rattle.cell_net.specs.Rules.{IsGoodCandidate, IsNodeOf, JoinsTwoCells, node_at}
 use Rattle.cell_net.specs.declared.ids.CellId.{CellId}
 use Rattle.cell_net.specs.declared.ids.NodeId.{NodeId}
-use Rattle.cell_net.specs.declared.cells.CellEnd.{CellEnd}
 use Rattle.cell_net.specs.declared.cells.CellSpec.{CellSpec}
 use Rattle.cell_net.specs.declared.cells.End.{End}
 use Rattle.cell_net.specs.declared.cells.End.TheVariants.{Low, High}
 use Rattle.cell_net.specs.declared.parts.InstanceParts.{InstanceParts}
-use Rattle.rail_net.specs.Parts.{EndsAt, IsNode, IsTrackOfSection, node_names}
-use Rattle.rail_net.specs.Borders.{IsBorderJoint, IsJoint}
+use Rattle.rail_net.specs.Borders.{IsJoint}
 use Rattle.rail_net.specs.Sections.{IsOfOneSection}
 use Rattle.rail_net.specs.Refusals.{IsNet}
-use Rattle.rail_net.specs.Rules.{degree}
 use Rattle.rail_net.specs.declared.parts.NodeKind.TheVariants.{Joint}
 use Rattle.rail_net.specs.declared.parts.NodePart.{NodePart}
 use Rattle.rail_net.specs.declared.parts.TrackPart.{TrackPart}
@@ -29,20 +26,18 @@ use Rattle.rail_net.proofs.ListLaws.{contains_at, map_at, mapped_at, place_of}
 use Rattle.timetable.specs.declared.parts.Timetable.{Timetable}
 use Rattle.discretise.specs.Tracks.{AreGridTracks, AreLaid, cut_total}
 use Rattle.discretise.specs.Cells.{cell, cell_in, cells_on, node, node_before}
-use Rattle.discretise.specs.Joins.{ends_at, ends_in, high_end, low_end}
-use Rattle.discretise.specs.Places.{AreFreeJoints, IsFreeJoint, candidates_on, cuts_in, open_cuts}
+use Rattle.discretise.specs.Joins.{ends_at, track_ends_at, high_end, low_end}
+use Rattle.discretise.specs.Places.{AreFreeJoints, IsFreeJoint, nodes_of_candidates, cuts_in, open_cuts}
 use Rattle.discretise.specs.declared.tracks.GridTrack.{GridTrack}
 use Rattle.discretise.specs.declared.ends.TrackEnd.{TrackEnd}
-use Rattle.discretise.proofs.ChainLemmas.{Chained, IsPlaced, chained, node_cases, one_by_cut, row_is}
+use Rattle.discretise.proofs.ChainLemmas.{Chained, chained, node_cases, one_by_cut, row_is}
 use Rattle.discretise.proofs.DegreeLemmas.{ends_count}
-use Rattle.discretise.proofs.GridLemmas.{IsEndAt, flat_has, high_at, low_at}
+use Rattle.discretise.proofs.GridLemmas.{flat_has, high_at, low_at}
 use Rattle.discretise.proofs.JoinLaws.{IsCellOfEnd, cell_of_end, cells_differ}
-use Rattle.discretise.proofs.JoinLemmas.{no_end}
 use Rattle.discretise.proofs.NetLemmas.{has_number, of_end, one_node}
 use Rattle.discretise.proofs.PickLaws.{picked_holds}
-use Rattle.discretise.proofs.RisingLaws.{RisesTo, rises_above, rises_both, rises_lower, rises_next, rises_picked, rises_row, rises_within}
-use Rattle.discretise.proofs.RowLemmas.{has_cases, has_first, has_later}
-use Rattle.discretise.proofs.SectionLemmas.{last_high}
+use Rattle.discretise.proofs.RisingLaws.{RisesTo, rises_above, rises_both, rises_next, rises_picked, rises_row, rises_within}
+use Rattle.discretise.proofs.RowLemmas.{has_cases}
 use Rattle.discretise.proofs.SoundLemmas.{IsSound, cell_here, here_cell}
 
 -- ---- candidates rise
@@ -65,7 +60,7 @@ all_cuts_rise first cut (g ∷ gs) chain =
     subst (λ m. RisesTo (λ (n : NodeId). n.0) cut m (flat_map open_cuts (g ∷ gs))) (let same : cut + (g.count - 1) + cut_total gs ≡ cut + cut_total (g ∷ gs) = omega arith in same)
     (rises_both (λ (n : NodeId). n.0) cut (cut + (g.count - 1)) (cut + (g.count - 1) + cut_total gs) (open_cuts g) (flat_map open_cuts gs) (cuts_rise g cut chain.1) rest)
 
-pub candidates_rise : (p : NetParts) (t : Timetable) (gs : List GridTrack) (joints : List ℕ) → AreGridTracks p t gs → AreFreeJoints p joints → RisesTo (λ (n : NodeId). n.0) 0 (length p.nodes + cut_total gs) (candidates_on joints gs)
+pub candidates_rise : (p : NetParts) (t : Timetable) (gs : List GridTrack) (joints : List ℕ) → AreGridTracks p t gs → AreFreeJoints p joints → RisesTo (λ (n : NodeId). n.0) 0 (length p.nodes + cut_total gs) (nodes_of_candidates joints gs)
 candidates_rise p t gs joints all free =
     rises_both (λ (n : NodeId). n.0) 0 (length p.nodes) (length p.nodes + cut_total gs) (map node joints) (flat_map open_cuts gs)
     (subst (λ m. RisesTo (λ (n : NodeId). n.0) 0 m (map node joints)) (let same : 0 + length p.nodes ≡ length p.nodes = omega arith in same)
@@ -73,7 +68,7 @@ candidates_rise p t gs joints all free =
 
 -- ---- the ends at a node are of different tracks
 
-ends_rise_in : (n : ℕ) (g : GridTrack) → g.from ≢ g.to → RisesTo (λ (e : TrackEnd). e.track) g.number (g.number + 1) (ends_in n g)
+ends_rise_in : (n : ℕ) (g : GridTrack) → g.from ≢ g.to → RisesTo (λ (e : TrackEnd). e.track) g.number (g.number + 1) (track_ends_at n g)
 ends_rise_in n g differ = elim (eqb_tells g.from n) [
   | inl from ↦ elim (eqb_tells g.to n) [
     | inl to ↦ absurd (differ (from.1 ∙ sym to.1))
@@ -94,9 +89,9 @@ laid_ends_rise p t n number first cut [] (g ∷ gs) laid differ = absurd laid
 laid_ends_rise p t n number first cut (x ∷ parts) [] laid differ = absurd laid
 laid_ends_rise p t n number first cut (x ∷ parts) (g ∷ gs) laid differ =
     let rest = laid_ends_rise p t n (number + 1) (first + g.count) (cut + (g.count - 1)) parts gs laid.1 (λ k. differ (suc k)) in
-    let own : RisesTo (λ (e : TrackEnd). e.track) number (number + 1) (ends_in n g) = subst (λ m. RisesTo (λ (e : TrackEnd). e.track) m (m + 1) (ends_in n g)) laid.0.number (ends_rise_in n g (differ zero g refl)) in
+    let own : RisesTo (λ (e : TrackEnd). e.track) number (number + 1) (track_ends_at n g) = subst (λ m. RisesTo (λ (e : TrackEnd). e.track) m (m + 1) (track_ends_at n g)) laid.0.number (ends_rise_in n g (differ zero g refl)) in
     subst (λ m. RisesTo (λ (e : TrackEnd). e.track) number m (ends_at (g ∷ gs) n)) (let same : number + 1 + length gs ≡ number + length (g ∷ gs) = omega arith in same)
-    (rises_both (λ (e : TrackEnd). e.track) number (number + 1) (number + 1 + length gs) (ends_in n g) (ends_at gs n) own rest)
+    (rises_both (λ (e : TrackEnd). e.track) number (number + 1) (number + 1 + length gs) (track_ends_at n g) (ends_at gs n) own rest)
 
 pub ends_rise : (p : NetParts) (t : Timetable) (gs : List GridTrack) → AreGridTracks p t gs → ((k : ℕ) (g : GridTrack) → slice_get gs k ≡ Some g → g.from ≢ g.to) → (n : ℕ) → RisesTo (λ (e : TrackEnd). e.track) 0 (0 + length gs) (ends_at gs n)
 unfolding AreGridTracks
@@ -277,7 +272,7 @@ module _ (p : NetParts) (t : Timetable) (gs : List GridTrack) (i : InstanceParts
       go true there = there
       go false there = absurd (omega (arith, there.1))
 
-  pub joins_two : (joints : List ℕ) → AreFreeJoints p joints → (n : NodeId) → Contains (candidates_on joints gs) n → JoinsTwoCells i n
+  pub joins_two : (joints : List ℕ) → AreFreeJoints p joints → (n : NodeId) → Contains (nodes_of_candidates joints gs) n → JoinsTwoCells i n
   joins_two joints free n there = elim (Contains-append_cases (map node joints) (flat_map open_cuts gs) n there) [
     | inl joint ↦
         let at = place_of (map node joints) n joint in
@@ -291,17 +286,17 @@ module _ (p : NetParts) (t : Timetable) (gs : List GridTrack) (i : InstanceParts
         subst (JoinsTwoCells i) row.1 (cut_joins_two at.0.number at.0 place.0 (has_number p t gs net all at.0 at.1) (omega (arith, row.0)))
   ]
 
-  pub good_candidates : (joints : List ℕ) → AreFreeJoints p joints → i.nodes ≡ length p.nodes + cut_total gs → i.candidates ≡ candidates_on joints gs → length (candidates_on joints gs) ≤ 512 → HoldsOfEach (IsGoodCandidate i) i.candidates
+  pub good_candidates : (joints : List ℕ) → AreFreeJoints p joints → i.nodes ≡ length p.nodes + cut_total gs → i.candidates ≡ nodes_of_candidates joints gs → length (nodes_of_candidates joints gs) ≤ 512 → HoldsOfEach (IsGoodCandidate i) i.candidates
   good_candidates joints free nodes are few = record {
     at_each = λ k n is.
-        let there : slice_get (candidates_on joints gs) k ≡ Some n = subst (λ ns. slice_get ns k ≡ Some n) are is in
+        let there : slice_get (nodes_of_candidates joints gs) k ≡ Some n = subst (λ ns. slice_get ns k ≡ Some n) are is in
         let rising = candidates_rise p t gs joints all free in
-        let within = rises_within (λ (m : NodeId). m.0) 0 (length p.nodes + cut_total gs) (candidates_on joints gs) rising k n there in
-        let short : k < length (candidates_on joints gs) = slice_get_within (candidates_on joints gs) k n there in
+        let within = rises_within (λ (m : NodeId). m.0) 0 (length p.nodes + cut_total gs) (nodes_of_candidates joints gs) rising k n there in
+        let short : k < length (nodes_of_candidates joints gs) = slice_get_within (nodes_of_candidates joints gs) k n there in
         record {
           few = omega arith;
-          rises = subst (λ ns. IsAboveLast (λ (m : NodeId). m.0) ns k n) (sym are) (rises_above (λ (m : NodeId). m.0) 0 (length p.nodes + cut_total gs) (candidates_on joints gs) rising k n there);
+          rises = subst (λ ns. IsAboveLast (λ (m : NodeId). m.0) ns k n) (sym are) (rises_above (λ (m : NodeId). m.0) 0 (length p.nodes + cut_total gs) (nodes_of_candidates joints gs) rising k n there);
           in_range = omega (arith, within.1, nodes);
-          joins = joins_two joints free n (contains_at (candidates_on joints gs) k n there);
+          joins = joins_two joints free n (contains_at (nodes_of_candidates joints gs) k n there);
         };
   }

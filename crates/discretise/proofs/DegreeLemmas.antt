@@ -1,15 +1,14 @@
 -- How many ends of tracks stand at a node, and that they are of different cells.
-use Rattle.std.proofs.Common.{◌≡◌, ◌≢◌, ◌+◌, ◌-◌, ◌<◌, ◌≤◌, ◌⊎◌, inl, inr, ◌↔◌, ℕ, zero, suc, Bool, true, false, List, [], ◌∷◌, ◌++◌, length, get_or, cond, Some, slice_get, sum_by, refl, sym, ap, subst, ◌∙◌, arith}
-use Rattle.std.specs.Prelude.{◌==◌, if◌then◌else◌, bytes_eq, count_by, All}
-use Rattle.std.specs.List.{Contains, flat_map}
-use Rattle.std.proofs.lemmas.Bool.Decides.{Decides-eqb, eqb_tells}
+use Rattle.std.proofs.Common.{◌≡◌, ◌+◌, ◌-◌, ℕ, Bool, true, false, List, [], ◌∷◌, ◌++◌, length, cond, Some, slice_get, refl, sym, ap, ◌∙◌, arith}
+use Rattle.std.specs.Prelude.{◌==◌, if◌then◌else◌, bytes_eq, count_by}
+use Rattle.std.proofs.lemmas.Bool.Decides.{Decides-eqb}
 use Rattle.std.proofs.lemmas.List.{length-append}
 use Rattle.std.proofs.lemmas.List.Sums.{sum_by-cons}
-use Rattle.std.proofs.lemmas.Option.{same_Some, slice_get_within, slice_get-get_or}
+use Rattle.std.proofs.lemmas.Option.{same_Some}
 use Rattle.std.proofs.lemmas.Slice.Eq.{bytes_eq-Decides}
 use Rattle.rail_net.specs.Parts.{IsNode, node_names}
 use Rattle.rail_net.specs.Refusals.{IsNet}
-use Rattle.rail_net.specs.Rules.{begin_count, degree, end_count}
+use Rattle.rail_net.specs.Rules.{degree}
 use Rattle.rail_net.specs.declared.parts.NodePart.{NodePart}
 use Rattle.rail_net.specs.declared.parts.TrackPart.{TrackPart}
 use Rattle.rail_net.specs.declared.parts.NetParts.{NetParts}
@@ -18,15 +17,14 @@ use Rattle.rail_net.proofs.ListingLemmas.{same_test}
 use Rattle.rail_net.proofs.NameLaws.{same_number}
 use Rattle.timetable.specs.declared.parts.Timetable.{Timetable}
 use Rattle.discretise.specs.Tracks.{AreGridTracks, AreLaid}
-use Rattle.discretise.specs.Joins.{ends_at, ends_in, high_end, low_end}
+use Rattle.discretise.specs.Joins.{ends_at, track_ends_at, high_end, low_end}
 use Rattle.discretise.specs.declared.tracks.GridTrack.{GridTrack}
-use Rattle.discretise.specs.declared.ends.TrackEnd.{TrackEnd}
 
 -- 1 for what is so
 abbrev pub one_if : Bool → ℕ
 one_if b = cond b 1 0
 
-ends_in_count : (node : ℕ) (g : GridTrack) → length (ends_in node g) ≡ one_if (g.from == node) + one_if (g.to == node)
+ends_in_count : (node : ℕ) (g : GridTrack) → length (track_ends_at node g) ≡ one_if (g.from == node) + one_if (g.to == node)
 ends_in_count node g = go (g.from == node) (g.to == node)
   where
     go : (a b : Bool) → length ((if a then low_end g ∷ [] else []) ++ (if b then high_end g ∷ [] else [])) ≡ one_if a + one_if b
@@ -49,7 +47,7 @@ module _ (p : NetParts) (t : Timetable) (net : IsNet p) (node : ℕ) (name : Lis
   laid_count number first cut (x ∷ parts) [] laid = absurd laid
   laid_count number first cut (x ∷ parts) (g ∷ gs) laid =
       let rest = laid_count (number + 1) (first + g.count) (cut + (g.count - 1)) parts gs laid.1 in
-      let both : length (ends_at (g ∷ gs) node) ≡ length (ends_in node g) + length (ends_at gs node) = length-append (ends_in node g) (ends_at gs node) in
+      let both : length (ends_at (g ∷ gs) node) ≡ length (track_ends_at node g) + length (ends_at gs node) = length-append (track_ends_at node g) (ends_at gs node) in
       let from : one_if (g.from == node) ≡ one_if (bytes_eq x.from name) = ap one_if (name_test g.from x.from laid.0.from) in
       let to : one_if (g.to == node) ≡ one_if (bytes_eq x.to name) = ap one_if (name_test g.to x.to laid.0.to) in
       let begins : count_by (λ (y : TrackPart). bytes_eq y.from name) (x ∷ parts) ≡ one_if (bytes_eq x.from name) + count_by (λ (y : TrackPart). bytes_eq y.from name) parts = sum_by-cons (λ (y : TrackPart). one_if (bytes_eq y.from name)) x parts in

@@ -1,12 +1,10 @@
 -- The ends of tracks at each node, track by track.
-use Rattle.std.proofs.Common.{◌≡◌, ◌≢◌, ◌+◌, ◌<◌, ◌⊎◌, inl, inr, ℕ, zero, suc, List, [], ◌∷◌, ◌++◌, length, get_or, set, refl, sym, ap, subst, ◌∙◌, arith, append_assoc}
-use Rattle.std.specs.Prelude.{◌==◌, if◌then◌else◌, Bool, true, false, All}
-use Rattle.std.specs.List.{flat_map}
-use Rattle.std.proofs.lemmas.Bool.{cases_eq}
+use Rattle.std.proofs.Common.{◌≡◌, ◌<◌, inl, inr, ℕ, List, [], ◌∷◌, ◌++◌, length, get_or, set, sym, ap, subst, ◌∙◌, arith, append_assoc}
+use Rattle.std.specs.Prelude.{◌==◌, if◌then◌else◌, Bool, All}
 use Rattle.std.proofs.lemmas.Bool.Decides.{eqb_tells}
 use Rattle.std.proofs.lemmas.List.{append-nil, length-set, get_or-set_same, get_or-set_other}
 use Rattle.std.proofs.lemmas.Grind.{flat_map-append}
-use Rattle.discretise.specs.Joins.{AreEndsByNode, ends_at, ends_in, high_end, low_end}
+use Rattle.discretise.specs.Joins.{AreEndsByNode, ends_at, track_ends_at, high_end, low_end}
 use Rattle.discretise.specs.declared.tracks.GridTrack.{GridTrack}
 use Rattle.discretise.specs.declared.ends.TrackEnd.{TrackEnd}
 
@@ -27,8 +25,8 @@ row_more rows at e n within = elim (eqb_tells at n) [
 pub no_ends : (nodes : ℕ) (rows : List (List TrackEnd)) → length rows ≡ nodes → All (λ r. r ≡ []) rows → AreEndsByNode nodes [] rows
 no_ends nodes rows count none = record { count = count; each = λ n within. none n [] (omega arith) }
 
-ends_push : (gs : List GridTrack) (g : GridTrack) (n : ℕ) → ends_at (gs ++ g ∷ []) n ≡ ends_at gs n ++ ends_in n g
-ends_push gs g n = flat_map-append (ends_in n) gs (g ∷ []) ∙ ap (λ es. ends_at gs n ++ es) (append-nil (ends_in n g))
+ends_push : (gs : List GridTrack) (g : GridTrack) (n : ℕ) → ends_at (gs ++ g ∷ []) n ≡ ends_at gs n ++ track_ends_at n g
+ends_push gs g n = flat_map-append (track_ends_at n) gs (g ∷ []) ∙ ap (λ es. ends_at gs n ++ es) (append-nil (track_ends_at n g))
 
 -- one more track
 pub ends_more : (nodes : ℕ) (gs : List GridTrack) (g : GridTrack) (rows mid new : List (List TrackEnd)) → AreEndsByNode nodes gs rows → g.from < nodes → g.to < nodes
@@ -40,5 +38,5 @@ ends_more nodes gs g rows mid new all from to is_mid is_new =
           ap (λ rs. get_or rs n []) is_new ∙ (row_more mid g.to (high_end g) n (omega arith)
           ∙ (ap (λ r. r ++ (if g.to == n then high_end g ∷ [] else [])) (ap (λ rs. get_or rs n []) is_mid ∙ row_more rows g.from (low_end g) n (omega (arith, all.count)))
           ∙ (append_assoc (get_or rows n []) (if g.from == n then low_end g ∷ [] else []) (if g.to == n then high_end g ∷ [] else [])
-          ∙ (ap (λ r. r ++ ends_in n g) (all.each n within) ∙ sym (ends_push gs g n)))));
+          ∙ (ap (λ r. r ++ track_ends_at n g) (all.each n within) ∙ sym (ends_push gs g n)))));
     }

@@ -1,37 +1,19 @@
 -- What the tracks on the grid are of the network, and which of their ends stand at a node.
-use Rattle.std.proofs.Common.{◌≡◌, ◌≢◌, ◌+◌, ◌-◌, ◌<◌, ◌≤◌, ◌⊎◌, inl, inr, ◌↔◌, ℕ, zero, suc, Bool, true, false, List, [], ◌∷◌, ◌++◌, length, get_or, Some, slice_get, refl, sym, ap, subst, ◌∙◌, arith}
-use Rattle.std.specs.Prelude.{◌==◌, if◌then◌else◌, All}
+use Rattle.std.proofs.Common.{◌≡◌, ◌⊎◌, inl, inr, ℕ, Bool, List, [], ◌∷◌, ◌++◌, sym, ap, subst, arith}
+use Rattle.std.specs.Prelude.{◌==◌, if◌then◌else◌}
 use Rattle.std.specs.List.{Contains, flat_map}
 use Rattle.std.proofs.lemmas.Bool.Decides.{eqb_tells}
-use Rattle.std.proofs.lemmas.List.Elements.{Contains-append_cases, Contains-append_left, Contains-append_right, Contains-get_or}
-use Rattle.std.proofs.lemmas.Option.{same_Some, slice_get_within, slice_get-get_or, get_or_from_slice_get}
-use Rattle.vss_lists.specs.Breaks.{HoldsOfEach}
-use Rattle.rail_net.specs.Parts.{EndsAt, IsNode, IsTrackOfSection, IsTrack, node_names, track_names}
-use Rattle.rail_net.specs.Borders.{IsBorderJoint, IsFree, IsJoint}
-use Rattle.rail_net.specs.Refusals.{IsNet}
-use Rattle.rail_net.specs.Sections.{IsOfOneSection}
-use Rattle.rail_net.specs.declared.parts.NodeKind.{NodeKind}
-use Rattle.rail_net.specs.declared.parts.NodeKind.TheVariants.{Joint}
-use Rattle.rail_net.specs.declared.parts.NodePart.{NodePart}
-use Rattle.rail_net.specs.declared.parts.TrackPart.{TrackPart}
-use Rattle.rail_net.specs.declared.parts.NetParts.{NetParts}
-use Rattle.rail_net.proofs.ListLaws.{contains_at, map_at, mapped_at, place_of}
-use Rattle.rail_net.proofs.ListingLemmas.{one_section}
-use Rattle.rail_net.proofs.NameLaws.{same_number}
-use Rattle.timetable.specs.declared.parts.Timetable.{Timetable}
-use Rattle.discretise.specs.Tracks.{AreGridTracks, AreLaid, IsGridTrack, no_track}
-use Rattle.discretise.specs.Joins.{ends_at, ends_in, high_end, low_end}
-use Rattle.discretise.specs.Places.{AreFreeEnds, AreOfOneSection, AreOfSection, IsFreeJoint, track_of}
+use Rattle.std.proofs.lemmas.List.Elements.{Contains-append_cases, Contains-append_left, Contains-append_right}
+use Rattle.discretise.specs.Joins.{ends_at, track_ends_at, high_end, low_end}
 use Rattle.discretise.specs.declared.tracks.GridTrack.{GridTrack}
 use Rattle.discretise.specs.declared.ends.TrackEnd.{TrackEnd}
 use Rattle.discretise.proofs.RowLemmas.{has_cases, has_first, has_later}
-use Rattle.discretise.proofs.TrackLemmas.{laid_at}
 
 -- the end of a track at the node: the low one where it begins there, the high one where it ends there
 pub record IsEndAt (node : ℕ) (g : GridTrack) (e : TrackEnd) : Type 0 where
   pub which : ((g.from ≡ node) × (low_end g ≡ e)) ⊎ ((g.to ≡ node) × (high_end g ≡ e))
 
-end_in : (node : ℕ) (g : GridTrack) (e : TrackEnd) → Contains (ends_in node g) e → IsEndAt node g e
+end_in : (node : ℕ) (g : GridTrack) (e : TrackEnd) → Contains (track_ends_at node g) e → IsEndAt node g e
 end_in node g e there = elim (eqb_tells g.from node) [
   | inl from ↦ elim (eqb_tells g.to node) [
     | inl to ↦ both (subst (λ (b : Bool). Contains (low_end g ∷ (if b then high_end g ∷ [] else [])) e) to.0 (subst (λ (b : Bool). Contains ((if b then low_end g ∷ [] else []) ++ (if g.to == node then high_end g ∷ [] else [])) e) from.0 there)) from.1 to.1
@@ -55,13 +37,13 @@ end_in node g e there = elim (eqb_tells g.from node) [
     neither : Contains [] e → IsEndAt node g e
     neither none = absurd (omega (arith, none.1))
 
-in_end_low : (node : ℕ) (g : GridTrack) → g.from ≡ node → Contains (ends_in node g) (low_end g)
+in_end_low : (node : ℕ) (g : GridTrack) → g.from ≡ node → Contains (track_ends_at node g) (low_end g)
 in_end_low node g from = elim (eqb_tells g.from node) [
   | inl is ↦ subst (λ (b : Bool). Contains ((if b then low_end g ∷ [] else []) ++ (if g.to == node then high_end g ∷ [] else [])) (low_end g)) (sym is.0) (has_first (low_end g) (if g.to == node then high_end g ∷ [] else []))
   | inr not ↦ absurd (not.1 from)
 ]
 
-in_end_high : (node : ℕ) (g : GridTrack) → g.to ≡ node → Contains (ends_in node g) (high_end g)
+in_end_high : (node : ℕ) (g : GridTrack) → g.to ≡ node → Contains (track_ends_at node g) (high_end g)
 in_end_high node g to = elim (eqb_tells g.to node) [
   | inl is ↦ Contains-append_right (if g.from == node then low_end g ∷ [] else []) (if g.to == node then high_end g ∷ [] else []) (high_end g)
       (subst (λ (b : Bool). Contains (if b then high_end g ∷ [] else []) (high_end g)) (sym is.0) (has_first (high_end g) []))
@@ -85,13 +67,13 @@ has_flat f (z ∷ xs) x y there has = elim (has_cases z xs x there) [
 
 -- an end at a node is that of a track
 pub end_has : (gs : List GridTrack) (node : ℕ) (e : TrackEnd) → Contains (ends_at gs node) e → (g : GridTrack) × Contains gs g × IsEndAt node g e
-end_has gs node e there = let at = flat_has (ends_in node) gs e there in (at.0, at.1, end_in node at.0 e at.2)
+end_has gs node e there = let at = flat_has (track_ends_at node) gs e there in (at.0, at.1, end_in node at.0 e at.2)
 
 pub low_at : (gs : List GridTrack) (node : ℕ) (g : GridTrack) → Contains gs g → g.from ≡ node → Contains (ends_at gs node) (low_end g)
-low_at gs node g there from = has_flat (ends_in node) gs g (low_end g) there (in_end_low node g from)
+low_at gs node g there from = has_flat (track_ends_at node) gs g (low_end g) there (in_end_low node g from)
 
 pub high_at : (gs : List GridTrack) (node : ℕ) (g : GridTrack) → Contains gs g → g.to ≡ node → Contains (ends_at gs node) (high_end g)
-high_at gs node g there to = has_flat (ends_in node) gs g (high_end g) there (in_end_high node g to)
+high_at gs node g there to = has_flat (track_ends_at node) gs g (high_end g) there (in_end_high node g to)
 
 pub its_number : (node : ℕ) (g : GridTrack) (e : TrackEnd) → IsEndAt node g e → g.number ≡ e.track
 its_number node g e at = elim at.which [ inl low ↦ ap (λ (x : TrackEnd). x.track) low.1 | inr high ↦ ap (λ (x : TrackEnd). x.track) high.1 ]

@@ -1,9 +1,7 @@
 -- The parts of a scene keep every rule of an instance.
-use Rattle.std.proofs.Common.{◌≡◌, ◌+◌, ◌<◌, ◌≤◌, ◌^◌, ℕ, List, length, Some, slice_get, sym, subst, ap, ◌∙◌, arith}
+use Rattle.std.proofs.Common.{◌≡◌, ◌<◌, ◌≤◌, ℕ, List, length, Some, slice_get, sym, subst, arith}
 use Rattle.std.specs.Prelude.{All, slice_index_or}
-use Rattle.std.specs.List.{Contains}
 use Rattle.std.proofs.lemmas.Option.{slice_get-get_or}
-use Rattle.vss_lists.specs.Breaks.{HoldsOfEach}
 use Rattle.vss_lists.specs.Orders.{AreKept}
 use Rattle.cell_net.specs.Rules.{IsInstance}
 use Rattle.cell_net.specs.declared.parts.InstanceParts.{InstanceParts}
@@ -13,7 +11,7 @@ use Rattle.timetable.specs.Timetables.{IsTimetable}
 use Rattle.timetable.specs.declared.parts.TrainPart.{TrainPart}
 use Rattle.timetable.specs.declared.parts.Timetable.{Timetable}
 use Rattle.discretise.specs.Tracks.{AreGridTracks, cell_total}
-use Rattle.discretise.specs.Places.{AreFreeJoints, candidates_on}
+use Rattle.discretise.specs.Places.{AreFreeJoints, nodes_of_candidates}
 use Rattle.discretise.specs.Refusals.{FitsGrid, HasFewCandidates, cut_rules}
 use Rattle.discretise.specs.Scenes.{AreParts}
 use Rattle.discretise.specs.declared.tracks.GridTrack.{GridTrack}
@@ -41,11 +39,11 @@ trains_fit p t kept k d within =
     }
 
 -- the candidates are few
-pub few_candidates : (p : NetParts) (t : Timetable) (gs : List GridTrack) (joints : List ℕ) → IsNet p → AreGridTracks p t gs → AreFreeJoints p joints → HasFewCandidates p t → length (candidates_on joints gs) ≤ 512
+pub few_candidates : (p : NetParts) (t : Timetable) (gs : List GridTrack) (joints : List ℕ) → IsNet p → AreGridTracks p t gs → AreFreeJoints p joints → HasFewCandidates p t → length (nodes_of_candidates joints gs) ≤ 512
 few_candidates p t gs joints net all free few =
     let tracks : few.tracks ≡ gs = one_grid p t few.tracks gs net few.are_tracks all in
     let same : few.joints ≡ joints = picks_same _ _ few.joints joints few.are_joints free in
-    subst (λ js. length (candidates_on js gs) ≤ 512) same (subst (λ hs. length (candidates_on few.joints hs) ≤ 512) tracks few.few)
+    subst (λ js. length (nodes_of_candidates js gs) ≤ 512) same (subst (λ hs. length (nodes_of_candidates few.joints hs) ≤ 512) tracks few.few)
 
 pub is_instance : (p : NetParts) (t : Timetable) (gs : List GridTrack) (joints : List ℕ) (i : InstanceParts) → IsNet p → IsTimetable p t → AreKept (cut_rules p t) → AreGridTracks p t gs → AreFreeJoints p joints → AreParts p t gs joints i → IsInstance i
 is_instance p t gs joints i net timed kept all free parts =

@@ -1,32 +1,30 @@
 -- Each join of the grid is good: it is between two different ends of cells at one node.
-use Rattle.std.proofs.Common.{◌≡◌, ◌≢◌, ◌+◌, ◌-◌, ◌<◌, ◌≤◌, ◌⊎◌, inl, inr, ℕ, zero, suc, List, [], ◌∷◌, ◌++◌, length, map, get_or, Some, slice_get, refl, sym, ap, subst, ◌∙◌, arith}
-use Rattle.std.specs.List.{Contains, flat_map, range_with_len}
+use Rattle.std.proofs.Common.{◌≡◌, ◌≢◌, ◌+◌, ◌-◌, ◌<◌, inl, inr, ℕ, suc, List, [], ◌∷◌, length, map, Some, slice_get, refl, sym, ap, subst, ◌∙◌, arith}
+use Rattle.std.specs.List.{Contains, range_with_len}
 use Rattle.std.proofs.lemmas.List.Elements.{Contains-append_cases}
-use Rattle.std.proofs.lemmas.Option.{same_Some, slice_get_within}
+use Rattle.std.proofs.lemmas.Option.{same_Some}
 use Rattle.vss_lists.specs.Breaks.{HoldsOfEach}
 use Rattle.cell_net.specs.Rules.{IsGoodJoin, IsNodeOf}
 use Rattle.cell_net.specs.declared.ids.CellId.{CellId}
 use Rattle.cell_net.specs.declared.cells.CellEnd.{CellEnd}
-use Rattle.cell_net.specs.declared.cells.CellSpec.{CellSpec}
 use Rattle.cell_net.specs.declared.cells.JoinSpec.{JoinSpec}
 use Rattle.cell_net.specs.declared.parts.InstanceParts.{InstanceParts}
 use Rattle.rail_net.specs.Parts.{IsTrack}
-use Rattle.rail_net.specs.Passages.{ArePair, HasPassage, LeadsOver}
+use Rattle.rail_net.specs.Passages.{LeadsOver}
 use Rattle.rail_net.specs.Refusals.{IsNet}
-use Rattle.rail_net.specs.Rules.{AreFourHere, HasPairs}
+use Rattle.rail_net.specs.Rules.{HasPairs}
 use Rattle.rail_net.specs.declared.parts.NodeKind.{NodeKind}
 use Rattle.rail_net.specs.declared.parts.NodeKind.TheVariants.{EndNode, Joint, Point, Crossing}
-use Rattle.rail_net.specs.declared.parts.NodePart.{NodePart}
 use Rattle.rail_net.specs.declared.parts.NetParts.{NetParts}
 use Rattle.rail_net.proofs.ListLaws.{contains_at, mapped_at, place_of}
 use Rattle.timetable.specs.declared.parts.Timetable.{Timetable}
 use Rattle.discretise.specs.Tracks.{AreGridTracks}
 use Rattle.discretise.specs.Cells.{cell, cell_in, cells_on, node, node_before}
-use Rattle.discretise.specs.Joins.{AreJoins, IsPassage, NodePair, cut_join, cut_joins, cut_joins_in, ends_at, high_end, join_of, low_end, node_pairs, pair_with, pairs_from, pairs_of}
+use Rattle.discretise.specs.Joins.{AreJoins, IsPassage, NodePair, cut_join, cut_joins, cut_joins_in, ends_at, join_of, node_pairs, pair_with, pairs_from, pairs_of}
 use Rattle.discretise.specs.declared.tracks.GridTrack.{GridTrack}
 use Rattle.discretise.specs.declared.ends.TrackEnd.{TrackEnd}
 use Rattle.discretise.proofs.ChainLemmas.{chained, one_by_cell, row_is}
-use Rattle.discretise.proofs.GridLemmas.{IsEndAt, end_has, flat_has}
+use Rattle.discretise.proofs.GridLemmas.{end_has, flat_has}
 use Rattle.discretise.proofs.NetLemmas.{has_number}
 use Rattle.discretise.proofs.PickLaws.{picked_holds}
 use Rattle.discretise.proofs.RowLemmas.{has_first, has_later}

@@ -1,11 +1,10 @@
 -- Joins that are added pair by pair.
-use Rattle.std.proofs.Common.{◌≡◌, ◌+◌, ◌<◌, ℕ, zero, suc, List, [], ◌∷◌, ◌++◌, length, map, take, drop, get_or, Some, slice_get, refl, sym, ap, subst, ◌∙◌, arith, append_assoc}
+use Rattle.std.proofs.Common.{◌≡◌, ◌+◌, ◌<◌, ℕ, zero, suc, List, [], ◌∷◌, ◌++◌, length, map, take, get_or, refl, sym, ap, subst, ◌∙◌, arith, append_assoc}
 use Rattle.std.specs.List.{range_with_len}
 use Rattle.std.proofs.lemmas.List.{append-nil, map_push, take_more, map-append}
 use Rattle.cell_net.specs.declared.cells.End.TheVariants.{Low}
 use Rattle.cell_net.specs.declared.cells.JoinSpec.{JoinSpec}
 use Rattle.rail_net.specs.declared.parts.NetParts.{NetParts}
-use Rattle.discretise.specs.Picks.{Picks}
 use Rattle.discretise.specs.Joins.{AddsJoins, AreEndsByNode, IsPassage, ends_at, NodePair, join_of, pair_with, pairs_from, pairs_of}
 use Rattle.discretise.specs.declared.tracks.GridTrack.{GridTrack}
 use Rattle.discretise.specs.declared.ends.TrackEnd.{TrackEnd}

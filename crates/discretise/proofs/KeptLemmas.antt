@@ -1,16 +1,16 @@
 -- The nodes where borders of a network stand.
-use Rattle.std.proofs.Common.{◌≡◌, ◌≢◌, ◌+◌, ◌-◌, ◌*◌, ◌/◌, ◌<◌, ◌≤◌, ◌⊎◌, inl, inr, ◌↔◌, ℕ, zero, suc, Bool, true, false, IsTrue, List, [], ◌∷◌, ◌++◌, length, map, set, get_or, Some, slice_get, refl, sym, ap, subst, ◌∙◌, arith}
+use Rattle.std.proofs.Common.{◌≡◌, ◌+◌, ◌-◌, ◌*◌, ◌/◌, ◌<◌, ◌≤◌, inl, inr, ◌↔◌, ℕ, zero, suc, Bool, true, false, IsTrue, List, [], ◌∷◌, ◌++◌, length, map, set, Some, slice_get, refl, sym, ap, subst, ◌∙◌, arith}
 use Rattle.std.specs.Prelude.{if◌then◌else◌}
 use Rattle.std.specs.Int.{div_ceil}
-use Rattle.std.specs.List.{Contains, range_with_len}
+use Rattle.std.specs.List.{range_with_len}
 use Rattle.std.proofs.lemmas.Grind.{div_ceil_times}
 use Rattle.std.proofs.Math.Nat.{mul-div_cancel, lt_of_mul-lt-mul_right}
-use Rattle.std.proofs.lemmas.List.{length-map, length-set, map_push}
+use Rattle.std.proofs.lemmas.List.{length-set, map_push}
 use Rattle.std.proofs.lemmas.List.Elements.{Contains-append_left, Contains-push, Contains-push_cases}
-use Rattle.std.proofs.lemmas.Option.{same_Some, slice_get_within, slice_get-get_or}
+use Rattle.std.proofs.lemmas.Option.{same_Some}
 use Rattle.cell_net.specs.declared.ids.CandidateId.{CandidateId}
 use Rattle.cell_net.specs.declared.ids.NodeId.{NodeId}
-use Rattle.rail_net.specs.Parts.{IsNode, IsTrack, node_names, track_names}
+use Rattle.rail_net.specs.Parts.{IsNode, IsTrack}
 use Rattle.rail_net.specs.Borders.{IsBorderJoint, IsJoint, IsWithinTrack}
 use Rattle.rail_net.specs.Refusals.{IsNet}
 use Rattle.rail_net.specs.declared.parts.NodeKind.TheVariants.{Joint}
@@ -19,12 +19,12 @@ use Rattle.rail_net.specs.declared.parts.TrackPart.{TrackPart}
 use Rattle.rail_net.specs.declared.parts.BorderPart.{BorderPart}
 use Rattle.rail_net.specs.declared.parts.BorderPart.TheVariants as border
 use Rattle.rail_net.specs.declared.parts.NetParts.{NetParts}
-use Rattle.rail_net.proofs.ListLaws.{contains_at, map_at, mapped_at, place_of}
+use Rattle.rail_net.proofs.ListLaws.{map_at, place_of}
 use Rattle.rail_net.proofs.NameLaws.{same_number}
 use Rattle.timetable.specs.declared.parts.Timetable.{Timetable}
 use Rattle.discretise.specs.Picks.{Picks}
-use Rattle.discretise.specs.Tracks.{AreGridTracks, AreSmall, IsSmall, cut_total, no_track}
-use Rattle.discretise.specs.Places.{AreMarkedFor, IsCutAt, IsKeptPlace, IsNodeOfOne, StandsAt, candidate}
+use Rattle.discretise.specs.Tracks.{AreGridTracks, cut_total}
+use Rattle.discretise.specs.Places.{AreMarkedFor, IsKeptPlace, IsNodeOfOne, StandsAtNode, candidate}
 use Rattle.discretise.specs.Refusals.{AreWholeSteps}
 use Rattle.discretise.specs.declared.tracks.GridTrack.{GridTrack}
 use Rattle.discretise.proofs.ChainLemmas.{chained, lies_within}
@@ -87,7 +87,7 @@ cut_well p t gs net all positive track at_m number w whole is =
 
 -- a node stands for one border, and a cut or a joint is the node of a border
 module _ (p : NetParts) (t : Timetable) (gs : List GridTrack) (net : IsNet p) (all : AreGridTracks p t gs) where
-  pub one_place : (part : BorderPart) (i j : ℕ) → StandsAt p t gs part i → StandsAt p t gs part j → i ≡ j
+  pub one_place : (part : BorderPart) (i j : ℕ) → StandsAtNode p t gs part i → StandsAtNode p t gs part j → i ≡ j
   one_place (border.Cut track at_m) i j one other =
       let k = place_of gs one.g one.there in
       let l = place_of gs other.g other.there in
@@ -98,18 +98,18 @@ module _ (p : NetParts) (t : Timetable) (gs : List GridTrack) (net : IsNet p) (a
   one_place (border.Joint name) i j one other = same_number (λ (n : NodePart). n.name) p.nodes net.new_nodes i j name one other
 
   -- one more border is marked
-  pub marked_more : (parts : List BorderPart) (part : BorderPart) (nodes number : ℕ) (marks : List Bool) → AreMarkedFor p t gs parts nodes marks → number < nodes → StandsAt p t gs part number
+  pub marked_more : (parts : List BorderPart) (part : BorderPart) (nodes number : ℕ) (marks : List Bool) → AreMarkedFor p t gs parts nodes marks → number < nodes → StandsAtNode p t gs part number
       → AreMarkedFor p t gs (parts ++ part ∷ []) nodes (set marks number true)
   marked_more parts part nodes number marks so_far within stands = record {
     count = length-set marks number true ∙ so_far.count;
     each = λ k mark is. elim (mark_cases marks number k mark (subst (λ n. number < n) (sym so_far.count) within) is) [
-      | inl here ↦ (λ told. record { part = part; listed = Contains-push parts part; stands = subst (StandsAt p t gs part) (sym here.0) stands }, λ has. here.1)
+      | inl here ↦ (λ told. record { part = part; listed = Contains-push parts part; stands = subst (StandsAtNode p t gs part) (sym here.0) stands }, λ has. here.1)
       | inr other ↦
           let tells = so_far.each k mark other.1 in (
             λ told. let one = tells.0 told in record { part = one.part; listed = Contains-append_left parts (part ∷ []) one.part one.listed; stands = one.stands },
             λ has. elim (Contains-push_cases parts part has.part has.listed) [
               | inl before ↦ tells.1 (record { part = has.part; listed = before; stands = has.stands })
-              | inr same ↦ absurd (other.0 (one_place part k number (subst (λ b. StandsAt p t gs b k) (sym same) has.stands) stands))
+              | inr same ↦ absurd (other.0 (one_place part k number (subst (λ b. StandsAtNode p t gs b k) (sym same) has.stands) stands))
             ],
           )
     ];

@@ -1,10 +1,9 @@
 -- The labels of a scene are those of its instance: names, none of which is another's.
-use Rattle.std.proofs.Common.{◌≡◌, ◌≢◌, ◌+◌, ◌-◌, ◌*◌, ◌/◌, ◌<◌, ◌≤◌, ◌⊎◌, inl, inr, ℕ, zero, suc, Bool, true, false, List, [], ◌∷◌, ◌++◌, length, map, get_or, Some, slice_get, refl, sym, ap, subst, ◌∙◌, arith}
-use Rattle.std.specs.Prelude.{All, AllPairs, if◌then◌else◌, slice_index_or}
+use Rattle.std.proofs.Common.{◌≡◌, ◌+◌, ◌-◌, ◌*◌, ◌/◌, ◌<◌, ◌⊎◌, inl, inr, ℕ, zero, Bool, true, false, List, [], ◌∷◌, ◌++◌, length, map, get_or, Some, slice_get, refl, sym, ap, subst, ◌∙◌, arith}
+use Rattle.std.specs.Prelude.{All, if◌then◌else◌}
 use Rattle.std.specs.List.{AllZip, Contains, flat_map, range_with_len}
-use Rattle.std.proofs.lemmas.List.{length-map, length-append}
-use Rattle.std.proofs.lemmas.List.Elements.{All-contains, All-map, Contains-append_cases, Contains-get_or}
-use Rattle.std.proofs.lemmas.List.FromFn.{length-map-range_with_len}
+use Rattle.std.proofs.lemmas.List.{length-map}
+use Rattle.std.proofs.lemmas.List.Elements.{All-contains, All-map}
 use Rattle.std.proofs.lemmas.Option.{same_Some, slice_get_within, slice_get-get_or, get_or_from_slice_get}
 use Rattle.std.proofs.Math.Nat.{mul-div_cancel}
 use Rattle.vss_names.specs.Names.{IsName}
@@ -19,26 +18,24 @@ use Rattle.cell_net.specs.declared.parts.InstanceParts.{InstanceParts}
 use Rattle.rail_net.specs.Parts.{IsNode, node_names, track_names}
 use Rattle.rail_net.specs.Refusals.{IsNet}
 use Rattle.rail_net.specs.Rules.{HasNewName}
-use Rattle.rail_net.specs.declared.parts.NodePart.{NodePart}
 use Rattle.rail_net.specs.declared.parts.TrackPart.{TrackPart}
 use Rattle.rail_net.specs.declared.parts.NetParts.{NetParts}
-use Rattle.rail_net.proofs.ListLaws.{contains_at, mapped_at, place_of}
+use Rattle.rail_net.proofs.ListLaws.{contains_at}
 use Rattle.rail_net.proofs.NameLaws.{same_number}
-use Rattle.timetable.specs.Timetables.{IsTimetable, IsTrainOf, train_names}
+use Rattle.timetable.specs.Timetables.{IsTimetable}
 use Rattle.timetable.specs.declared.parts.TrainPart.{TrainPart}
 use Rattle.timetable.specs.declared.parts.Timetable.{Timetable}
-use Rattle.discretise.specs.Picks.{Picks}
-use Rattle.discretise.specs.Tracks.{AreGridTracks, AreInRange, IsTrackInRange}
+use Rattle.discretise.specs.Tracks.{AreGridTracks}
 use Rattle.discretise.specs.Cells.{cell_labels, label_in, node}
-use Rattle.discretise.specs.Places.{AreFreeJoints, IsFreeJoint, candidates_on, cut_label, cut_labels, cuts_in, joint_label, labels_of_cuts, open_cuts, place_labels}
+use Rattle.discretise.specs.Places.{AreFreeJoints, IsFreeJoint, nodes_of_candidates, cut_label, cut_labels, cuts_in, joint_label, labels_of_cuts, open_cuts, place_labels}
 use Rattle.discretise.specs.Scenes.{AreNames, AreParts}
 use Rattle.discretise.specs.declared.tracks.GridTrack.{GridTrack}
 use Rattle.discretise.proofs.CandidateLemmas.{candidates_rise}
-use Rattle.discretise.proofs.ChainLemmas.{IsPlaced, chained, placed, row_is, rows_length}
+use Rattle.discretise.proofs.ChainLemmas.{chained, placed, rows_length}
 use Rattle.discretise.proofs.NetLemmas.{has_number, one_node, part_of}
 use Rattle.discretise.proofs.PickLaws.{picked_holds}
 use Rattle.discretise.proofs.RestLemmas.{zip_at, zip_length}
-use Rattle.discretise.proofs.RisingLaws.{RisesTo, rises_one}
+use Rattle.discretise.proofs.RisingLaws.{rises_one}
 use Rattle.discretise.proofs.RowLemmas.{has_later}
 use Rattle.discretise.proofs.SoundLemmas.{cell_count}
 
@@ -78,7 +75,7 @@ cuts_labelled p t all_gs (g ∷ gs) within =
     go true = zip_maps (IsLabelOf p t all_gs) (λ (k : ℕ). node (g.cut + k)) (cut_label t g) (range_with_len 0 (g.count - 1)) (λ k there. record { which = inr (g, k, within g (zero, omega arith, refl), refl, refl) })
     go false = tt
 
-pub places_labelled : (p : NetParts) (t : Timetable) (gs : List GridTrack) (joints : List ℕ) → AreFreeJoints p joints → AllZip (IsLabelOf p t gs) (candidates_on joints gs) (place_labels p t joints gs)
+pub places_labelled : (p : NetParts) (t : Timetable) (gs : List GridTrack) (joints : List ℕ) → AreFreeJoints p joints → AllZip (IsLabelOf p t gs) (nodes_of_candidates joints gs) (place_labels p t joints gs)
 places_labelled p t gs joints free =
     zip_both (IsLabelOf p t gs) (map node joints) (flat_map open_cuts gs) (map (joint_label p) joints) (flat_map (cut_labels t) gs)
     (zip_maps (IsLabelOf p t gs) node (joint_label p) joints (λ n there.
@@ -108,9 +105,9 @@ module _ (p : NetParts) (t : Timetable) (gs : List GridTrack) (joints : List ℕ
 
   places_differ : AllDiffer (place_labels p t joints gs)
   places_differ = differ_by (place_labels p t joints gs) (λ i j l is also.
-      let one = zip_at (IsLabelOf p t gs) (candidates_on joints gs) (place_labels p t joints gs) (places_labelled p t gs joints free) i l is in
-      let other = zip_at (IsLabelOf p t gs) (candidates_on joints gs) (place_labels p t joints gs) (places_labelled p t gs joints free) j l also in
-      rises_one (λ (n : NodeId). n.0) 0 _ (candidates_on joints gs) (candidates_rise p t gs joints all free) i j one.0 other.0 one.1 other.1 (one_labelled one.0 other.0 l one.2 other.2))
+      let one = zip_at (IsLabelOf p t gs) (nodes_of_candidates joints gs) (place_labels p t joints gs) (places_labelled p t gs joints free) i l is in
+      let other = zip_at (IsLabelOf p t gs) (nodes_of_candidates joints gs) (place_labels p t joints gs) (places_labelled p t gs joints free) j l also in
+      rises_one (λ (n : NodeId). n.0) 0 _ (nodes_of_candidates joints gs) (candidates_rise p t gs joints all free) i j one.0 other.0 one.1 other.1 (one_labelled one.0 other.0 l one.2 other.2))
 
   cells_differ_by : AllDiffer (cell_labels gs)
   cells_differ_by = differ_by (cell_labels gs) (λ i j l is also.
@@ -155,7 +152,7 @@ module _ (p : NetParts) (t : Timetable) (gs : List GridTrack) (joints : List ℕ
         omega arith);
     places = subst (λ n. All (IsGoodPlace n) l.places) (sym (ap length names.tracks)) (subst (All (IsGoodPlace (length (track_names p)))) (sym names.places) (λ k d within.
         let label : PlaceLabel = get_or (place_labels p t joints gs) k d in
-        let at = zip_at (IsLabelOf p t gs) (candidates_on joints gs) (place_labels p t joints gs) (places_labelled p t gs joints free) k label (slice_get-get_or (place_labels p t joints gs) k d within) in
+        let at = zip_at (IsLabelOf p t gs) (nodes_of_candidates joints gs) (place_labels p t joints gs) (places_labelled p t gs joints free) k label (slice_get-get_or (place_labels p t joints gs) k d within) in
         good_place label at.0 at.2));
     tracks_differ = subst AllDiffer (sym names.tracks) (names_differ (λ (x : TrackPart). x.name) p.tracks net.new_tracks);
     cells_differ = subst AllDiffer (sym names.cells) cells_differ_by;
@@ -167,7 +164,7 @@ module _ (p : NetParts) (t : Timetable) (gs : List GridTrack) (joints : List ℕ
   pub labelled : (i : InstanceParts) (l : Labels) → AreParts p t gs joints i → AreNames p t gs joints l → AreLabelsOf i l
   labelled i l parts names = record {
     cells = ap length names.cells ∙ (rows_length label_in gs ∙ sym (cell_count p t gs i all parts.cells));
-    places = ap length names.places ∙ (sym (zip_length (IsLabelOf p t gs) (candidates_on joints gs) (place_labels p t joints gs) (places_labelled p t gs joints free)) ∙ ap length (sym parts.candidates));
+    places = ap length names.places ∙ (sym (zip_length (IsLabelOf p t gs) (nodes_of_candidates joints gs) (place_labels p t joints gs) (places_labelled p t gs joints free)) ∙ ap length (sym parts.candidates));
     trains = ap length names.trains ∙ (length-map t.trains (λ (x : TrainPart). x.name) ∙ zip_length _ t.trains i.trains parts.trains);
     are_labels = are_labels l names;
   }

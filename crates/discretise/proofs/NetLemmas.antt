@@ -1,25 +1,24 @@
 -- The tracks of a network, told by their numbers on the grid.
-use Rattle.std.proofs.Common.{◌≡◌, ◌≢◌, ◌+◌, ◌-◌, ◌<◌, ◌≤◌, ◌⊎◌, inl, inr, ◌↔◌, ℕ, zero, suc, Bool, true, false, List, [], ◌∷◌, length, get_or, Some, slice_get, refl, sym, ap, subst, ◌∙◌, arith}
+use Rattle.std.proofs.Common.{◌≡◌, ◌+◌, ◌-◌, ◌<◌, inl, inr, ◌↔◌, ℕ, zero, suc, true, List, [], ◌∷◌, length, get_or, Some, slice_get, refl, sym, ap, subst, ◌∙◌, arith}
 use Rattle.std.specs.Prelude.{All}
 use Rattle.std.specs.List.{Contains}
 use Rattle.std.proofs.lemmas.List.Elements.{All-contains, Contains-get_or}
-use Rattle.std.proofs.lemmas.Option.{same_Some, slice_get_within, slice_get-get_or, get_or_from_slice_get}
-use Rattle.rail_net.specs.Parts.{EndsAt, IsNode, IsTrackOfSection, IsTrack, node_names, track_names}
+use Rattle.std.proofs.lemmas.Option.{same_Some, get_or_from_slice_get}
+use Rattle.rail_net.specs.Parts.{EndsAt, IsNode, IsTrackOfSection}
 use Rattle.rail_net.specs.Borders.{IsBorderJoint, IsFree, IsJoint}
 use Rattle.rail_net.specs.Refusals.{IsNet}
 use Rattle.rail_net.specs.Sections.{IsOfOneSection}
-use Rattle.rail_net.specs.declared.parts.NodeKind.{NodeKind}
 use Rattle.rail_net.specs.declared.parts.NodeKind.TheVariants.{Joint}
 use Rattle.rail_net.specs.declared.parts.NodePart.{NodePart}
 use Rattle.rail_net.specs.declared.parts.TrackPart.{TrackPart}
 use Rattle.rail_net.specs.declared.parts.NetParts.{NetParts}
-use Rattle.rail_net.proofs.ListLaws.{contains_at, map_at, mapped_at, place_of}
+use Rattle.rail_net.proofs.ListLaws.{contains_at, map_at, place_of}
 use Rattle.rail_net.proofs.ListingLemmas.{one_section}
 use Rattle.rail_net.proofs.NameLaws.{same_number}
 use Rattle.timetable.specs.declared.parts.Timetable.{Timetable}
 use Rattle.discretise.specs.Tracks.{AreGridTracks, AreInRange, AreLaid, IsGridTrack, IsTrackInRange, no_track}
 use Rattle.discretise.specs.Joins.{ends_at, high_end, low_end}
-use Rattle.discretise.specs.Places.{AreFreeEnds, AreOfOneSection, AreOfSection, AreOpenEnds, IsFreeJoint, track_of}
+use Rattle.discretise.specs.Places.{AreFreeEnds, AreEndsOfOneSection, AreOfSection, IsFreeJoint, track_of}
 use Rattle.discretise.specs.declared.tracks.GridTrack.{GridTrack}
 use Rattle.discretise.specs.declared.ends.TrackEnd.{TrackEnd}
 use Rattle.discretise.proofs.GridLemmas.{IsEndAt, end_has, high_at, its_number, low_at}
@@ -132,7 +131,7 @@ module _ (p : NetParts) (t : Timetable) (gs : List GridTrack) (net : IsNet p) (a
         ∙ (ap (λ (g : GridTrack). g.section) (sym (track_is n k one.0 one.1)) ∙ All-contains (λ e. (track_of gs e).section ≡ section) (ends_at gs n) one.0 each one.1.there)
 
     free_is : AreFreeEnds gs part.kind (ends_at gs n) → IsFreeJoint p n
-    unfolding IsJoint IsOfOneSection IsFree AreOfOneSection
+    unfolding IsJoint IsOfOneSection IsFree AreEndsOfOneSection
     free_is free = record {
       name = part.name;
       is_node = its_name;
@@ -149,7 +148,7 @@ module _ (p : NetParts) (t : Timetable) (gs : List GridTrack) (net : IsNet p) (a
     }
 
     is_free : IsFreeJoint p n → AreFreeEnds gs part.kind (ends_at gs n)
-    unfolding IsJoint IsOfOneSection IsFree AreOfOneSection
+    unfolding IsJoint IsOfOneSection IsFree AreEndsOfOneSection
     is_free free =
         let name : free.name ≡ part.name = one_name n free.name part.name free.is_node its_name in
         let whole : IsBorderJoint p part.name = subst (IsBorderJoint p) name free.candidate in

@@ -1,9 +1,8 @@
 -- A network and a timetable have one grid, and one scene.
-use Rattle.std.proofs.Common.{◌≡◌, ◌+◌, ◌-◌, ◌<◌, ℕ, Bool, List, [], ◌∷◌, ◌++◌, length, map, Some, slice_get, refl, sym, ap, subst, ◌∙◌, arith}
-use Rattle.std.specs.List.{AllZip, flat_map, range_with_len}
+use Rattle.std.proofs.Common.{◌≡◌, ◌+◌, ◌-◌, ℕ, List, [], ◌∷◌, ◌++◌, length, map, slice_get, refl, sym, ap, subst, ◌∙◌}
+use Rattle.std.specs.List.{AllZip, flat_map}
 use Rattle.std.proofs.lemmas.Option.{same_Some}
 use Rattle.cell_net.specs.Space.{head_of, opposite, tail_of}
-use Rattle.cell_net.specs.declared.ids.CandidateId.{CandidateId}
 use Rattle.cell_net.specs.declared.ids.CellId.{CellId}
 use Rattle.cell_net.specs.declared.cells.CellEnd.{CellEnd}
 use Rattle.cell_net.specs.declared.cells.DirCell.{DirCell}
@@ -13,7 +12,6 @@ use Rattle.cell_net.specs.declared.cells.JoinSpec.{JoinSpec}
 use Rattle.cell_net.specs.declared.trains.TrainSpec.{TrainSpec}
 use Rattle.cell_net.specs.declared.labels.Labels.{Labels}
 use Rattle.cell_net.specs.declared.parts.InstanceParts.{InstanceParts}
-use Rattle.rail_net.specs.Parts.{IsNode}
 use Rattle.rail_net.specs.Refusals.{IsNet}
 use Rattle.rail_net.specs.declared.parts.GroupPart.{GroupPart}
 use Rattle.rail_net.specs.declared.parts.NodePart.{NodePart}
@@ -26,9 +24,9 @@ use Rattle.timetable.specs.declared.parts.Timetable.{Timetable}
 use Rattle.discretise.specs.Rounding.{latest_entry}
 use Rattle.discretise.specs.Tracks.{AreGridTracks, AreLaid, IsGridTrack}
 use Rattle.discretise.specs.Joins.{AreJoins, cut_joins, ends_at, join_of}
-use Rattle.discretise.specs.Places.{AreFreeJoints, AreKeptPlaces, candidate, candidates_on, place_labels}
+use Rattle.discretise.specs.Places.{AreKeptPlaces, candidate}
 use Rattle.discretise.specs.Stations.{IsStationOf, cell_ids}
-use Rattle.discretise.specs.Trains.{IsGridTrain, IsOneEnd, IsTrainOver}
+use Rattle.discretise.specs.Trains.{IsGridTrain, IsOneEnd}
 use Rattle.discretise.specs.Scenes.{AreNames, AreParts, IsScene}
 use Rattle.discretise.specs.declared.tracks.GridTrack.{GridTrack}
 use Rattle.discretise.specs.declared.ends.TrackEnd.{TrackEnd}

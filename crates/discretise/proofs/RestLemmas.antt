@@ -1,7 +1,7 @@
 -- Kept candidates, stations and trains of the grid keep the rules of an instance.
-use Rattle.std.proofs.Common.{◌≡◌, ◌≢◌, ◌+◌, ◌-◌, ◌*◌, ◌/◌, ◌<◌, ◌≤◌, ◌^◌, ◌⊎◌, inl, inr, ℕ, zero, suc, List, [], ◌∷◌, ◌++◌, length, map, get_or, min, max, Some, None, slice_get, refl, sym, ap, subst, ◌∙◌, arith}
+use Rattle.std.proofs.Common.{◌≡◌, ◌+◌, ◌<◌, ◌≤◌, ◌^◌, ℕ, zero, suc, List, [], ◌∷◌, length, map, get_or, Some, None, slice_get, refl, sym, ap, subst, ◌∙◌, arith}
 use Rattle.std.specs.Prelude.{All, Option}
-use Rattle.std.specs.List.{AllZip, Contains, flat_map, range_with_len}
+use Rattle.std.specs.List.{AllZip, Contains}
 use Rattle.std.proofs.lemmas.List.{length-map}
 use Rattle.std.proofs.lemmas.List.Elements.{All-contains, All-map, Contains-get_or}
 use Rattle.std.proofs.lemmas.Option.{same_Some, slice_get_within, slice_get-get_or}
@@ -12,9 +12,7 @@ use Rattle.cell_net.specs.Rules.{IsGoodKept, IsGoodStation, IsGoodStop, IsGoodTr
 use Rattle.cell_net.specs.Space.{IsCell, head_of, tail_of}
 use Rattle.cell_net.specs.declared.ids.CandidateId.{CandidateId}
 use Rattle.cell_net.specs.declared.ids.CellId.{CellId}
-use Rattle.cell_net.specs.declared.ids.NodeId.{NodeId}
 use Rattle.cell_net.specs.declared.cells.CellEnd.{CellEnd}
-use Rattle.cell_net.specs.declared.trains.StopSpec.{StopSpec}
 use Rattle.cell_net.specs.declared.trains.TrainSpec.{TrainSpec}
 use Rattle.cell_net.specs.declared.parts.InstanceParts.{InstanceParts}
 use Rattle.rail_net.specs.Parts.{IsTrack, track_names}
@@ -28,19 +26,18 @@ use Rattle.timetable.specs.Timetables.{IsTimetable, IsTrainOf}
 use Rattle.timetable.specs.declared.parts.StopPart.{StopPart}
 use Rattle.timetable.specs.declared.parts.TrainPart.{TrainPart}
 use Rattle.timetable.specs.declared.parts.Timetable.{Timetable}
-use Rattle.discretise.specs.Rounding.{HasStepUntil, length_in_cells, dwell_steps, last_step, latest_entry, step_count, step_from, steps_until}
+use Rattle.discretise.specs.Rounding.{last_step, latest_entry, step_count, step_from}
 use Rattle.discretise.specs.Tracks.{AreGridTracks, cell_total}
 use Rattle.discretise.specs.Cells.{cell, cells_on}
 use Rattle.discretise.specs.Joins.{ends_at}
 use Rattle.discretise.specs.Places.{AreKeptPlaces, IsKeptPlace, candidate}
 use Rattle.discretise.specs.Stations.{IsStationOf, IsTrackOf, cell_ids}
-use Rattle.discretise.specs.Trains.{IsGridTrain, IsOneEnd, IsTrainOver, stop_of}
-use Rattle.discretise.specs.Refusals.{ArrivesInTime, FitsGrid, HasTimeToStop, IsWindow}
+use Rattle.discretise.specs.Trains.{IsGridTrain, IsOneEnd, stop_of}
+use Rattle.discretise.specs.Refusals.{FitsGrid, HasTimeToStop, IsWindow}
 use Rattle.discretise.specs.declared.tracks.GridTrack.{GridTrack}
-use Rattle.discretise.specs.declared.ends.TrackEnd.{TrackEnd}
 use Rattle.discretise.proofs.ChainLemmas.{row_has, row_is}
 use Rattle.discretise.proofs.GridLemmas.{flat_has, has_flat}
-use Rattle.discretise.proofs.JoinLaws.{IsCellOfEnd, cell_of_end}
+use Rattle.discretise.proofs.JoinLaws.{cell_of_end}
 use Rattle.discretise.proofs.NetLemmas.{grid_of, has_number}
 use Rattle.discretise.proofs.PickLaws.{picked_holds, picks_all}
 use Rattle.discretise.proofs.RisingLaws.{RisesTo, rises_above, rises_picked, rises_within}

@@ -1,8 +1,8 @@
 -- The rules of the grid in a row: what is told of a part of them is told of all, and one refusal at most is told.
-use Rattle.std.proofs.Common.{◌≡◌, ◌+◌, ◌*◌, ◌/◌, ◌%◌, ℕ, zero, suc, List, [], ◌∷◌, ◌++◌, ap, sym, ◌∙◌, subst, arith}
+use Rattle.std.proofs.Common.{◌≡◌, ◌/◌, ◌%◌, ℕ, zero, suc, [], ◌∷◌, ◌++◌, ap, sym, ◌∙◌, subst, arith}
 use Rattle.std.proofs.Math.Nat.{mul-mod_left}
 use Rattle.std.proofs.lemmas.Nat.{div-add-mod'}
-use Rattle.vss_lists.specs.Orders.{OrderRule, AreKept, BreaksFirst, IsFirstBroken}
+use Rattle.vss_lists.specs.Orders.{AreKept, BreaksFirst, IsFirstBroken}
 use Rattle.vss_lists.proofs.OrderLaws.{AreSound, sound_each, sound_rule}
 use Rattle.rail_net.specs.declared.parts.NetParts.{NetParts}
 use Rattle.rail_net.specs.declared.refusal.ListKind.{ListKind}

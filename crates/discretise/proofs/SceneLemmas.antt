@@ -1,5 +1,5 @@
 -- What the making of a scene asks of the grid.
-use Rattle.std.proofs.Common.{◌≡◌, ◌+◌, ◌-◌, ◌<◌, ◌≤◌, ◌^◌, ℕ, zero, suc, List, [], ◌∷◌, length, get_or, map, sum_by, Some, slice_get, refl, sym, ap, subst, ◌∙◌, arith}
+use Rattle.std.proofs.Common.{◌≡◌, ◌+◌, ◌-◌, ◌<◌, ◌≤◌, ◌^◌, ℕ, zero, suc, List, [], ◌∷◌, length, get_or, map, Some, slice_get, refl, sym, ap, subst, ◌∙◌, arith}
 use Rattle.std.specs.Prelude.{All}
 use Rattle.std.specs.List.{AllZip, Contains, range_with_len}
 use Rattle.std.proofs.lemmas.List.Elements.{All-contains, Contains-get_or}
@@ -11,7 +11,6 @@ use Rattle.cell_net.specs.declared.ids.CandidateId.{CandidateId}
 use Rattle.cell_net.specs.declared.ids.NodeId.{NodeId}
 use Rattle.cell_net.specs.declared.trains.TrainSpec.{TrainSpec}
 use Rattle.cell_net.specs.declared.parts.InstanceParts.{InstanceParts}
-use Rattle.rail_net.specs.Passages.{IsAtNode}
 use Rattle.rail_net.specs.Refusals.{IsNet}
 use Rattle.rail_net.specs.Rules.{IsGoodLimit}
 use Rattle.rail_net.specs.declared.parts.NodeKind.TheVariants.{EndNode}
@@ -22,11 +21,10 @@ use Rattle.rail_net.proofs.ListLaws.{contains_at, map_at, there_is}
 use Rattle.timetable.specs.Timetables.{IsEndNode, IsTimetable, IsTrainOf}
 use Rattle.timetable.specs.declared.parts.TrainPart.{TrainPart}
 use Rattle.timetable.specs.declared.parts.Timetable.{Timetable}
-use Rattle.discretise.specs.Picks.{Picks}
 use Rattle.discretise.specs.Tracks.{AreGridTracks, AreLaid, cell_total, cut_total}
 use Rattle.discretise.specs.Joins.{AreAtNodes, AreEndsByNode, ends_at}
-use Rattle.discretise.specs.Places.{AreFreeJoints, IsFreeJoint, IsKeptPlace, candidate, candidates_on}
-use Rattle.discretise.specs.Trains.{HasItsEnds, HasOneEnd, IsGridTrain, IsTrainBetween, IsTrainOver}
+use Rattle.discretise.specs.Places.{AreFreeJoints, IsFreeJoint, IsKeptPlace, candidate, nodes_of_candidates}
+use Rattle.discretise.specs.Trains.{HasItsEnds, IsGridTrain, IsTrainBetween, IsTrainOver}
 use Rattle.discretise.specs.Refusals.{cut_rules}
 use Rattle.discretise.specs.Scenes.{AreParts}
 use Rattle.discretise.specs.declared.tracks.GridTrack.{GridTrack}
@@ -84,12 +82,12 @@ at_nodes p t gs rows net all ends = record {
 }
 
 -- candidates are nodes
-pub candidates_within : (p : NetParts) (t : Timetable) (gs : List GridTrack) (joints : List ℕ) (candidates : List NodeId) (nodes : ℕ) → AreGridTracks p t gs → AreFreeJoints p joints → candidates ≡ candidates_on joints gs → nodes ≡ length p.nodes + cut_total gs
+pub candidates_within : (p : NetParts) (t : Timetable) (gs : List GridTrack) (joints : List ℕ) (candidates : List NodeId) (nodes : ℕ) → AreGridTracks p t gs → AreFreeJoints p joints → candidates ≡ nodes_of_candidates joints gs → nodes ≡ length p.nodes + cut_total gs
     → All (λ n. n.0 < nodes) candidates
 candidates_within p t gs joints candidates nodes all free are total =
     subst (All (λ n. n.0 < nodes)) (sym are) (λ k d within.
-    let n : NodeId = get_or (candidates_on joints gs) k d in
-    let at = rises_within (λ (m : NodeId). m.0) 0 (length p.nodes + cut_total gs) (candidates_on joints gs) (candidates_rise p t gs joints all free) k n (slice_get-get_or (candidates_on joints gs) k d within) in
+    let n : NodeId = get_or (nodes_of_candidates joints gs) k d in
+    let at = rises_within (λ (m : NodeId). m.0) 0 (length p.nodes + cut_total gs) (nodes_of_candidates joints gs) (candidates_rise p t gs joints all free) k n (slice_get-get_or (nodes_of_candidates joints gs) k d within) in
     omega (arith, at.1, total))
 
 pub joints_within : (p : NetParts) (joints : List ℕ) → AreFreeJoints p joints → All (λ n. n < length p.nodes) joints

@@ -1,17 +1,16 @@
 -- The cells of a section are connected, as its tracks are.
-use Rattle.std.proofs.Common.{◌≡◌, ◌≢◌, ◌+◌, ◌-◌, ◌<◌, ◌≤◌, ◌⊎◌, inl, inr, ℕ, zero, suc, List, [], ◌∷◌, length, get_or, Some, slice_get, refl, sym, ap, subst, ◌∙◌, arith}
-use Rattle.std.proofs.lemmas.Option.{same_Some, get_or_from_slice_get}
+use Rattle.std.proofs.Common.{◌≡◌, ◌+◌, ◌-◌, ◌<◌, inl, inr, ℕ, zero, suc, List, [], get_or, Some, slice_get, refl, sym, ap, subst, ◌∙◌, arith}
+use Rattle.std.proofs.lemmas.Option.{get_or_from_slice_get}
 use Rattle.node_groups.specs.Reach.{Reaches}
 use Rattle.node_groups.proofs.ReachLaws.{Reaches-map, Reaches-refl, Reaches-step, Reaches-sym, Reaches-trans}
 use Rattle.cell_net.specs.Borders.{IsAtEnd, IsBorder, IsInSection, Linked, Meet}
 use Rattle.cell_net.specs.Sections.{IsConnected}
 use Rattle.cell_net.specs.declared.ids.CellId.{CellId}
 use Rattle.cell_net.specs.declared.ids.NodeId.{NodeId}
-use Rattle.cell_net.specs.declared.ids.SectionId.{SectionId}
 use Rattle.cell_net.specs.declared.cells.CellSpec.{CellSpec}
 use Rattle.cell_net.specs.declared.parts.InstanceParts.{InstanceParts}
 use Rattle.rail_net.specs.Parts.{EndsAt, IsNode, IsTrackOfSection}
-use Rattle.rail_net.specs.Sections.{Adjoin, IsConnectedSection, IsConnected as AreJoinedTracks}
+use Rattle.rail_net.specs.Sections.{Adjoin, HangsTogether as AreJoinedTracks}
 use Rattle.rail_net.specs.Refusals.{IsNet}
 use Rattle.rail_net.specs.declared.parts.TrackPart.{TrackPart}
 use Rattle.rail_net.specs.declared.parts.NetParts.{NetParts}
@@ -19,7 +18,7 @@ use Rattle.timetable.specs.declared.parts.Timetable.{Timetable}
 use Rattle.discretise.specs.Tracks.{AreGridTracks, no_track}
 use Rattle.discretise.specs.Cells.{cell, cell_in, cells_on, node, node_before}
 use Rattle.discretise.specs.declared.tracks.GridTrack.{GridTrack}
-use Rattle.discretise.proofs.ChainLemmas.{IsPlaced, node_cases}
+use Rattle.discretise.proofs.ChainLemmas.{node_cases}
 use Rattle.discretise.proofs.NetLemmas.{IsTrackAt, grid_of, one_node, part_of, section_is}
 use Rattle.discretise.proofs.SoundLemmas.{cell_here, here_cell}
 

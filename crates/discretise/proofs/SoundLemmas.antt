@@ -1,8 +1,8 @@
 -- What is known of each track on the grid, and of each cell of the instance.
-use Rattle.std.proofs.Common.{◌≡◌, ◌≢◌, ◌+◌, ◌-◌, ◌<◌, ◌≤◌, ◌⊎◌, inl, inr, ℕ, zero, suc, List, [], ◌∷◌, ◌++◌, length, map, Some, None, slice_get, min, sum_by, refl, sym, ap, subst, ◌∙◌, arith}
+use Rattle.std.proofs.Common.{◌≡◌, ◌≢◌, ◌+◌, ◌-◌, ◌<◌, ◌≤◌, inl, inr, ℕ, List, [], ◌∷◌, length, Some, None, slice_get, refl, sym, ap, subst, ◌∙◌, arith}
 use Rattle.std.specs.Prelude.{Option}
 use Rattle.std.proofs.lemmas.List.Sums.{sum_by-cons}
-use Rattle.std.proofs.lemmas.Option.{same_Some, slice_get_within}
+use Rattle.std.proofs.lemmas.Option.{slice_get_within}
 use Rattle.cell_net.specs.Rules.{IsGoodCell}
 use Rattle.cell_net.specs.declared.ids.NodeId.{NodeId}
 use Rattle.cell_net.specs.declared.cells.CellSpec.{CellSpec}
@@ -14,14 +14,13 @@ use Rattle.rail_net.specs.declared.parts.TrackPart.{TrackPart}
 use Rattle.rail_net.specs.declared.parts.NetParts.{NetParts}
 use Rattle.timetable.specs.Timetables.{IsTimetable}
 use Rattle.timetable.specs.declared.parts.Timetable.{Timetable}
-use Rattle.discretise.specs.Rounding.{advance_of, length_in_cells, limit_of}
+use Rattle.discretise.specs.Rounding.{length_in_cells, limit_of}
 use Rattle.discretise.specs.Tracks.{AreGridTracks, AreLaid, cell_total, cut_total}
-use Rattle.discretise.specs.Cells.{cell_in, cells_on, node, node_before}
+use Rattle.discretise.specs.Cells.{cell_in, cells_on, node_before}
 use Rattle.discretise.specs.Refusals.{HasFewCells, HasSomeLimit}
-use Rattle.discretise.specs.Scenes.{AreParts}
 use Rattle.discretise.specs.declared.tracks.GridTrack.{GridTrack}
-use Rattle.discretise.proofs.ChainLemmas.{Chained, IsPlaced, LiesWithin, chained, lies_within, node_cases, placed, rows_have, rows_length}
-use Rattle.discretise.proofs.NetLemmas.{IsTrackAt, one_name, part_of}
+use Rattle.discretise.proofs.ChainLemmas.{IsPlaced, chained, lies_within, node_cases, placed, rows_have, rows_length}
+use Rattle.discretise.proofs.NetLemmas.{one_name, part_of}
 use Rattle.discretise.proofs.TrackLemmas.{cells_together, node_there, some_cells}
 
 laid_total : (p : NetParts) (t : Timetable) (number first cut : ℕ) (parts : List TrackPart) (gs : List GridTrack) → AreLaid p t number first cut parts gs → cell_total gs ≡ cells_together t parts

@@ -1,6 +1,5 @@
 -- Tracks that are laid on the grid one by one.
-use Rattle.std.proofs.Common.{◌≡◌, ◌≢◌, ◌+◌, ◌-◌, ◌*◌, ◌<◌, ◌≤◌, ◌^◌, ◌⊎◌, inl, inr, ℕ, zero, suc, Bool, true, false, List, [], ◌∷◌, ◌++◌, length, take, get_or, sum_by, Some, slice_get, refl, sym, ap, subst, ◌∙◌, arith}
-use Rattle.std.specs.Prelude.{All}
+use Rattle.std.proofs.Common.{◌≡◌, ◌+◌, ◌-◌, ◌*◌, ◌<◌, ◌≤◌, ◌^◌, ℕ, zero, suc, List, [], ◌∷◌, ◌++◌, length, take, get_or, sum_by, Some, slice_get, refl, sym, ap, subst, ◌∙◌, arith}
 use Rattle.std.specs.Int.{div_ceil}
 use Rattle.std.proofs.lemmas.Grind.{div_ceil_times}
 use Rattle.std.proofs.lemmas.List.{length-map, length_push, take_more}
@@ -13,8 +12,8 @@ use Rattle.rail_net.specs.declared.parts.NetParts.{NetParts}
 use Rattle.timetable.specs.declared.parts.Timetable.{Timetable}
 use Rattle.rail_net.specs.declared.parts.NodePart.{NodePart}
 use Rattle.rail_net.specs.Parts.{node_names}
-use Rattle.discretise.specs.Rounding.{HasSteps, length_in_cells}
-use Rattle.discretise.specs.Tracks.{AreGridTracks, AreInRange, AreLaid, AreSmall, IsGridTrack, IsTrackInRange, IsSmall, cell_total, cut_total}
+use Rattle.discretise.specs.Rounding.{length_in_cells}
+use Rattle.discretise.specs.Tracks.{AreGridTracks, AreInRange, AreLaid, AreSmall, IsGridTrack, IsSmall, cell_total, cut_total}
 use Rattle.discretise.specs.declared.tracks.GridTrack.{GridTrack}
 
 -- one more track goes behind the others

@@ -6,7 +6,7 @@ use Rattle.rail_net.specs.declared.parts.NetParts.{NetParts}
 use Rattle.timetable.specs.declared.parts.Timetable.{Timetable}
 use Rattle.discretise.specs.Tracks.{AreGridTracks, AreInRange, AreSmall}
 use Rattle.discretise.specs.Joins.{AreEndsByNode}
-use Rattle.discretise.specs.Places.{AreFreeJoints, candidates_on}
+use Rattle.discretise.specs.Places.{AreFreeJoints, nodes_of_candidates}
 use Rattle.discretise.specs.declared.tracks.GridTrack.{GridTrack}
 use Rattle.discretise.specs.declared.ends.TrackEnd.{TrackEnd}
 
@@ -18,4 +18,4 @@ pub record IsGridOf (p : NetParts) (t : Timetable) (gs : List GridTrack) (ends :
   pub nodes : length p.nodes + CELLS < 2 ^ 32
   pub are_ends : AreEndsByNode (length p.nodes) gs ends
   pub are_joints : AreFreeJoints p joints
-  pub are_candidates : candidates ≡ candidates_on joints gs
+  pub are_candidates : candidates ≡ nodes_of_candidates joints gs

@@ -1,7 +1,6 @@
 -- Joins: at each cut, and where a passage leads over a node of the network.
 use Rattle.std.specs.Prelude.{◌≡◌, ◌<◌, ◌+◌, ◌-◌, ◌==◌, ℕ, if◌then◌else◌, List, [], ◌∷◌, ◌++◌, map, length, slice_index_or, slice_get, Some, All}
 use Rattle.std.specs.List.{flat_map, range_with_len}
-use Rattle.cell_net.specs.declared.cells.CellEnd.{CellEnd}
 use Rattle.cell_net.specs.declared.cells.End.TheVariants.{Low, High}
 use Rattle.cell_net.specs.declared.cells.JoinSpec.{JoinSpec}
 use Rattle.rail_net.specs.Passages.{HasPassage, IsAtNode}
@@ -32,12 +31,12 @@ abbrev pub high_end : GridTrack → TrackEnd
 high_end g = record { track = g.number; end = record { cell = cell (g.first + (g.count - 1)); end = High } }
 
 -- those of its ends that stand at the node
-abbrev pub ends_in : ℕ → GridTrack → List TrackEnd
-ends_in node g = (if g.from == node then low_end g ∷ [] else []) ++ (if g.to == node then high_end g ∷ [] else [])
+abbrev pub track_ends_at : ℕ → GridTrack → List TrackEnd
+track_ends_at node g = (if g.from == node then low_end g ∷ [] else []) ++ (if g.to == node then high_end g ∷ [] else [])
 
 -- the ends of tracks at the node, by track
 abbrev pub ends_at : List GridTrack → ℕ → List TrackEnd
-ends_at gs node = flat_map (ends_in node) gs
+ends_at gs node = flat_map (track_ends_at node) gs
 
 -- two ends at one node
 pub record NodePair : Type 0 where

@@ -38,8 +38,8 @@ abbrev pub open_cuts : GridTrack → List NodeId
 open_cuts g = if g.is_virtual then cuts_in g else []
 
 -- the candidates
-abbrev pub candidates_on : List ℕ → List GridTrack → List NodeId
-candidates_on joints gs = map node joints ++ flat_map open_cuts gs
+abbrev pub nodes_of_candidates : List ℕ → List GridTrack → List NodeId
+nodes_of_candidates joints gs = map node joints ++ flat_map open_cuts gs
 
 -- the names of these places: a joint has its own, and a cut is so many metres from where its track begins
 abbrev pub joint_label : NetParts → ℕ → PlaceLabel
@@ -68,14 +68,14 @@ AreOpenEnds gs ends = All (λ e. (track_of gs e).is_virtual ≡ true) ends
 abbrev pub AreOfSection : List GridTrack → ℕ → List TrackEnd → Type 0
 AreOfSection gs section ends = All (λ e. (track_of gs e).section ≡ section) ends
 
-unfoldable pub AreOfOneSection : List GridTrack → List TrackEnd → Type 0
-AreOfOneSection gs ends = (section : ℕ) × AreOfSection gs section ends
+unfoldable pub AreEndsOfOneSection : List GridTrack → List TrackEnd → Type 0
+AreEndsOfOneSection gs ends = (section : ℕ) × AreOfSection gs section ends
 
 -- a node of that kind with these ends of tracks is a joint where a border may stand
 pub record AreFreeEnds (gs : List GridTrack) (kind : NodeKind) (ends : List TrackEnd) : Type 0 where
   pub joint : kind ≡ Joint
   pub are_open : AreOpenEnds gs ends
-  pub one_section : AreOfOneSection gs ends
+  pub one_section : AreEndsOfOneSection gs ends
 
 -- the cut of the track of that name, so many metres from where it begins, is the node of that number
 pub record IsCutAt (p : NetParts) (t : Timetable) (gs : List GridTrack) (track : List ℕ) (at_m number : ℕ) : Type 0 where
@@ -85,15 +85,15 @@ pub record IsCutAt (p : NetParts) (t : Timetable) (gs : List GridTrack) (track :
   pub at : number + 1 ≡ g.cut + at_m / t.space_step_m
 
 -- the border stands at the node of that number
-abbrev pub StandsAt : NetParts → Timetable → List GridTrack → BorderPart → ℕ → Type 0
-StandsAt p t gs (border.Cut track at_m) number = IsCutAt p t gs track at_m number
-StandsAt p t gs (border.Joint name) number = IsNode p name number
+abbrev pub StandsAtNode : NetParts → Timetable → List GridTrack → BorderPart → ℕ → Type 0
+StandsAtNode p t gs (border.Cut track at_m) number = IsCutAt p t gs track at_m number
+StandsAtNode p t gs (border.Joint name) number = IsNode p name number
 
 -- one of these borders stands at the node of that number
 pub record IsNodeOfOne (p : NetParts) (t : Timetable) (gs : List GridTrack) (parts : List BorderPart) (number : ℕ) : Type 0 where
   pub part : BorderPart
   pub listed : Contains parts part
-  pub stands : StandsAt p t gs part number
+  pub stands : StandsAtNode p t gs part number
 
 -- a border of the network stands at the candidate of that number
 pub record IsKeptPlace (p : NetParts) (t : Timetable) (gs : List GridTrack) (candidates : List NodeId) (number : ℕ) : Type 0 where

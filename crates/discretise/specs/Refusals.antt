@@ -1,5 +1,5 @@
 -- The rules of the grid in their order, and which refusal tells the first that is broken.
-use Rattle.std.specs.Prelude.{◌≡◌, ◌≢◌, ◌<◌, ◌≤◌, ◌+◌, ◌-◌, ◌*◌, ℕ, if◌then◌else◌, List, [], ◌∷◌, ◌++◌, length, sum_by, ⊤, Option, None, Some, All}
+use Rattle.std.specs.Prelude.{◌≡◌, ◌≢◌, ◌<◌, ◌≤◌, ◌+◌, ◌*◌, ℕ, List, [], ◌∷◌, ◌++◌, length, sum_by, ⊤, Option, None, Some, All}
 use Rattle.cell_net.specs.declared.limits.TheConstants.{ADVANCE, CANDIDATES, CELLS, LENGTH, STEPS, TRAINS}
 use Rattle.vss_lists.specs.Orders.{OrderRule, IsFirstBroken, rule, rule_of_each}
 use Rattle.rail_net.specs.declared.parts.TrackPart.{TrackPart}
@@ -13,7 +13,7 @@ use Rattle.timetable.specs.declared.parts.TrainPart.{TrainPart}
 use Rattle.timetable.specs.declared.parts.Timetable.{Timetable}
 use Rattle.discretise.specs.Rounding.{HasStepUntil, advance_of, length_in_cells, dwell_steps, last_step, limit_of, step_count, step_from, steps_until}
 use Rattle.discretise.specs.Tracks.{AreGridTracks}
-use Rattle.discretise.specs.Places.{AreFreeJoints, candidates_on}
+use Rattle.discretise.specs.Places.{AreFreeJoints, nodes_of_candidates}
 use Rattle.discretise.specs.declared.tracks.GridTrack.{GridTrack}
 use Rattle.discretise.specs.declared.refusal.CutFault.{CutFault}
 use Rattle.discretise.specs.declared.refusal.CutFault.TheVariants.{TooManyCells, TooManyCandidates, TooManyTrains, TooManySteps, LimitTooLow, BorderOffGrid, TooSlow, StepTooCoarse, TrainTooLong, EntryPastHorizon, ArrivalBeforeEntry, WindowEmpty, StopWindow}
@@ -37,7 +37,7 @@ pub record HasFewCandidates (p : NetParts) (t : Timetable) : Type 0 where
   pub joints : List ℕ
   pub are_tracks : AreGridTracks p t tracks
   pub are_joints : AreFreeJoints p joints
-  pub few : length (candidates_on joints tracks) ≤ CANDIDATES
+  pub few : length (nodes_of_candidates joints tracks) ≤ CANDIDATES
 
 -- a train may advance on the track
 abbrev pub HasSomeLimit : Timetable → ℕ → TrackPart → Type 0

@@ -1,5 +1,5 @@
 -- The scene of a network and a timetable: the instance that they are cut into, and its labels; or why there is none.
-use Rattle.std.specs.Prelude.{◌≡◌, ◌+◌, ℕ, List, length, map, Result, Ok, Err}
+use Rattle.std.specs.Prelude.{◌≡◌, ◌+◌, ℕ, List, length, Result, Ok, Err}
 use Rattle.std.specs.List.{AllZip}
 use Rattle.vss_lists.specs.Orders.{AreKept}
 use Rattle.cell_net.specs.declared.labels.Labels.{Labels}
@@ -13,7 +13,7 @@ use Rattle.discretise.specs.Rounding.{step_count}
 use Rattle.discretise.specs.Tracks.{AreGridTracks, cut_total}
 use Rattle.discretise.specs.Cells.{cell_labels, cells_on}
 use Rattle.discretise.specs.Joins.{AreJoins}
-use Rattle.discretise.specs.Places.{AreFreeJoints, AreKeptPlaces, candidates_on, place_labels}
+use Rattle.discretise.specs.Places.{AreFreeJoints, AreKeptPlaces, nodes_of_candidates, place_labels}
 use Rattle.discretise.specs.Stations.{IsStationOf}
 use Rattle.discretise.specs.Trains.{IsGridTrain}
 use Rattle.discretise.specs.Refusals.{RefusesCut, cut_rules}
@@ -27,7 +27,7 @@ pub record AreParts (p : NetParts) (t : Timetable) (gs : List GridTrack) (joints
   pub sections : i.sections ≡ length p.sections
   pub cells : i.cells ≡ cells_on gs
   pub joins : AreJoins p gs i.joins
-  pub candidates : i.candidates ≡ candidates_on joints gs
+  pub candidates : i.candidates ≡ nodes_of_candidates joints gs
   pub kept : AreKeptPlaces p t gs i.candidates i.kept
   pub stations : AllZip (IsStationOf p gs) p.stations i.stations
   pub trains : AllZip (IsGridTrain gs t) t.trains i.trains

@@ -1,5 +1,5 @@
 -- Trains and their stops, in cells and steps.
-use Rattle.std.specs.Prelude.{◌≡◌, ◌<◌, ◌≤◌, ℕ, List, [], ◌∷◌, map, length, slice_index_or, All}
+use Rattle.std.specs.Prelude.{◌≡◌, ◌<◌, ◌≤◌, List, [], ◌∷◌, map, length, slice_index_or, All}
 use Rattle.cell_net.specs.Space.{head_of, tail_of}
 use Rattle.cell_net.specs.declared.cells.CellEnd.{CellEnd}
 use Rattle.cell_net.specs.declared.trains.StopSpec.{StopSpec}

@@ -1,7 +1,7 @@
 //! Cells and their names.
 
-ghost use Rattle.std.specs.Prelude.{◌≡◌, ◌<◌, ◌≤◌, ◌++◌, ◌^◌, ◌+◌, IfOk, OnOk};
-ghost use Rattle.discretise.specs.Tracks.{AreInRange, AreSmall, IsSmall};
+ghost use Rattle.std.specs.Prelude.{◌≡◌, ◌<◌, ◌≤◌, ◌++◌, ◌+◌, IfOk, OnOk};
+ghost use Rattle.discretise.specs.Tracks.{AreSmall, IsSmall};
 ghost use Rattle.discretise.specs.Cells.{cell_in as cell_of_track, cell_labels as labels_of_tracks, cells_in, cells_on as cells_of_tracks, labels_in, node_before as node_of_track};
 
 use crate::tracks::GridTrack;

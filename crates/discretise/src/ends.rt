@@ -1,6 +1,6 @@
 //! The ends of tracks at each node.
 
-ghost use Rattle.std.specs.Prelude.{◌≡◌, ◌<◌, ◌++◌, ◌∷◌, [], List, All, IfOk, OnOk, length, slice_index_or, slice_set};
+ghost use Rattle.std.specs.Prelude.{◌≡◌, ◌<◌, ◌++◌, ◌∷◌, [], All, IfOk, OnOk, length, slice_index_or, slice_set};
 ghost use Rattle.discretise.specs.Tracks.{AreInRange, AreSmall, IsSmall};
 ghost use Rattle.discretise.specs.Joins.{AreEndsByNode, low_end as low_of_track, high_end as high_of_track};
 ghost use Rattle.discretise.specs.declared.ends.TrackEnd.{TrackEnd};

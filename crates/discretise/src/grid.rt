@@ -1,6 +1,6 @@
 //! The tracks of a network on the grid, with what is made of them first.
 
-ghost use Rattle.std.specs.Prelude.{◌≡◌, ◌≤◌, ◌+◌, ◌<◌, ◌^◌, IfOk, IfErr, length};
+ghost use Rattle.std.specs.Prelude.{IfOk, IfErr};
 ghost use Rattle.vss_lists.specs.Orders.{AreKept};
 ghost use Rattle.timetable.specs.Timetables.{IsTimetable};
 ghost use Rattle.discretise.specs.Grids.{IsGridOf};

@@ -1,9 +1,8 @@
 //! Joins of cell ends: at cuts, and where passages lead over nodes.
 
-ghost use Rattle.std.specs.Prelude.{◌≡◌, ◌<◌, ◌≤◌, ◌+◌, ◌++◌, ◌∷◌, [], ◌^◌, All, List, IfOk, OnOk, IsTrue, ◌↔◌, length, map};
-ghost use Rattle.std.specs.List.{flat_map, range_with_len};
+ghost use Rattle.std.specs.Prelude.{◌≡◌, ◌<◌, ◌+◌, ◌++◌, ◌∷◌, [], ◌^◌, IfOk, OnOk, length, map};
 ghost use Rattle.rail_net.specs.Passages.{IsAtNode};
-ghost use Rattle.discretise.specs.Tracks.{AreGridTracks, AreInRange, AreSmall, IsSmall};
+ghost use Rattle.discretise.specs.Tracks.{AreSmall, IsSmall};
 ghost use Rattle.discretise.specs.Joins.{AddsJoins, AreAtNode, AreAtNodes, AreEndsByNode, AreJoins, cut_join as join_of_cut, cut_joins as joins_of_cuts, cut_joins_in, node_pairs, pair_with, pairs_of};
 ghost use Rattle.discretise.specs.declared.ends.TrackEnd.{TrackEnd};
 

@@ -1,12 +1,12 @@
 //! The candidates where a border is kept.
 
-ghost use Rattle.std.specs.Prelude.{◌≡◌, ◌<◌, ◌≤◌, ◌+◌, ◌-◌, ◌^◌, ◌++◌, ◌∷◌, [], if◌then◌else◌, ◌↔◌, ℕ, false, true, IsTrue, All, IfOk, OnOk, Some, Contains, length, slice_get, slice_index_or, slice_set};
+ghost use Rattle.std.specs.Prelude.{◌≡◌, ◌<◌, ◌+◌, ◌-◌, ◌^◌, ◌++◌, ◌∷◌, [], if◌then◌else◌, false, true, All, IfOk, OnOk, Some, length};
 ghost use Rattle.vss_lists.specs.Breaks.{HoldsOfEach};
 ghost use Rattle.rail_net.specs.Borders.{IsBorderJoint, IsWithinTrack, StandsWell};
 ghost use Rattle.rail_net.specs.Parts.{IsNode};
 ghost use Rattle.timetable.specs.Timetables.{IsTimetable};
 ghost use Rattle.discretise.specs.Tracks.{AreGridTracks, AreSmall, cut_total};
-ghost use Rattle.discretise.specs.Places.{AreKeptPlaces, AreMarkedFor, IsCutAt, StandsAt};
+ghost use Rattle.discretise.specs.Places.{AreKeptPlaces, AreMarkedFor, IsCutAt, StandsAtNode};
 ghost use Rattle.discretise.specs.Refusals.{AreWholeSteps, IsOnGrid};
 
 use crate::tracks::GridTrack;
@@ -74,7 +74,7 @@ fn node_of(net: &Net, timetable: &Timetable, tracks: &[GridTrack], border: &Bord
     requires small { AreSmall tracks.now }
     requires stands { StandsWell net.now border.now }
     requires on_grid { IsOnGrid timetable.now 0 border.now }
-    ensures stands { StandsAt net.now timetable.now tracks.now border.now result }
+    ensures stands { StandsAtNode net.now timetable.now tracks.now border.now result }
     ensures within { result < length net.now.nodes + cut_total tracks.now }
 {
     match border {

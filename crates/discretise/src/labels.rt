@@ -1,6 +1,6 @@
 //! The labels of a scene.
 
-ghost use Rattle.std.specs.Prelude.{◌≡◌, IfOk, map};
+ghost use Rattle.std.specs.Prelude.{◌≡◌, IfOk};
 ghost use Rattle.rail_net.specs.Parts.{track_names as names_of_tracks};
 ghost use Rattle.timetable.specs.Timetables.{IsTimetable, train_names as names_of_trains};
 ghost use Rattle.discretise.specs.Grids.{IsGridOf};

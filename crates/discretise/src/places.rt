@@ -1,16 +1,12 @@
 //! The places where a virtual border may stand, their names, and which of them are kept.
 
-ghost use Rattle.std.specs.Prelude.{◌≡◌, ◌≢◌, ◌<◌, ◌≤◌, ◌+◌, ◌^◌, ◌++◌, ◌↔◌, ◌∷◌, [], if◌then◌else◌, IsTrue, true, All, List, IfOk, OnOk, Some, length, map, slice_get, slice_set, slice_index_or};
-ghost use Rattle.std.specs.List.{flat_map, range_with_len};
-ghost use Rattle.cell_net.specs.declared.limits.TheConstants.{CELLS};
-ghost use Rattle.rail_net.specs.Parts.{node_names};
+ghost use Rattle.std.specs.Prelude.{◌≡◌, ◌<◌, ◌+◌, ◌++◌, ◌↔◌, ◌∷◌, [], if◌then◌else◌, IsTrue, true, All, IfOk, OnOk, Some, length, map};
 ghost use Rattle.rail_net.specs.declared.parts.NodeKind.TheVariants.{Joint};
-ghost use Rattle.timetable.specs.Timetables.{IsTimetable};
 ghost use Rattle.discretise.specs.Rounding.{HasSteps};
 ghost use Rattle.discretise.specs.Tracks.{AreGridTracks, AreInRange, AreSmall, IsSmall};
 ghost use Rattle.discretise.specs.Joins.{AreEndsByNode};
 ghost use Rattle.discretise.specs.Cells.{node};
-ghost use Rattle.discretise.specs.Places.{AreFreeJoints, AreFreeEnds, AreOfOneSection, AreOfSection, AreOpenEnds, candidates_on as candidates_of_tracks, cuts_in, joint_label, labels_of_cuts, place_labels as labels_of_places};
+ghost use Rattle.discretise.specs.Places.{AreFreeJoints, AreFreeEnds, AreEndsOfOneSection, AreOfSection, AreOpenEnds, nodes_of_candidates as candidates_of_tracks, cuts_in, joint_label, labels_of_cuts, place_labels as labels_of_places};
 ghost use Rattle.discretise.specs.declared.ends.TrackEnd.{TrackEnd};
 
 use crate::ends::TrackEnd;
@@ -80,7 +76,7 @@ fn are_open(tracks: &[GridTrack], ends: &[TrackEnd]) -> bool
 /// Whether the tracks of all these ends are of the section of the first of them.
 fn are_of_one_section(tracks: &[GridTrack], ends: &[TrackEnd]) -> bool
     requires { All (λ e. e.track < length tracks.now) ends.now }
-    ensures { IsTrue result ↔ AreOfOneSection tracks.now ends.now }
+    ensures { IsTrue result ↔ AreEndsOfOneSection tracks.now ends.now }
 {
     let Some(first) = ends.first() else {
         return true;

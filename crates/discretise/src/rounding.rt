@@ -1,6 +1,6 @@
 //! Metres as cells, and seconds as steps.
 
-ghost use Rattle.std.specs.Prelude.{◌≡◌, ◌≤◌, ◌↔◌, IsTrue};
+ghost use Rattle.std.specs.Prelude.{◌≡◌, ◌≤◌};
 ghost use Rattle.rail_net.specs.Rules.{IsGoodLimit};
 ghost use Rattle.discretise.specs.Rounding.{HasSteps, advance_of as advance_in_step, length_in_cells as cells_of_length, dwell_steps as steps_of_stop, last_step as last_of_steps, latest_entry as latest_of_entry, limit_of as limit_in_cells, step_count as steps_of_horizon, step_from as first_step_from, steps_until as whole_steps_until};
 

@@ -1,11 +1,11 @@
 //! The scene of a network and a timetable.
 
-ghost use Rattle.std.specs.Prelude.{◌≡◌, ◌<◌, ◌^◌, IfOk, length};
+ghost use Rattle.std.specs.Prelude.{◌<◌, ◌^◌, IfOk, length};
 ghost use Rattle.vss_lists.specs.Orders.{AreKept};
 ghost use Rattle.timetable.specs.Timetables.{IsTimetable};
 ghost use Rattle.discretise.specs.Grids.{IsGridOf};
 ghost use Rattle.discretise.specs.Refusals.{cut_rules};
-ghost use Rattle.discretise.specs.Scenes.{AreNames, AreParts, IsScene, IsSceneOf};
+ghost use Rattle.discretise.specs.Scenes.{AreParts, IsScene, IsSceneOf};
 
 use crate::cells::cells_on;
 use crate::grid::{Grid, grid_of};

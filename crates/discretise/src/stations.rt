@@ -1,8 +1,8 @@
 //! The cells of stations.
 
-ghost use Rattle.std.specs.Prelude.{◌≡◌, ◌<◌, ◌≤◌, ◌+◌, ◌^◌, ◌++◌, ◌∷◌, [], if◌then◌else◌, ◌↔◌, ℕ, false, true, IsTrue, All, IfOk, OnOk, Some, Contains, length, slice_get, slice_index_or, slice_set};
+ghost use Rattle.std.specs.Prelude.{◌≡◌, ◌+◌, ◌++◌, if◌then◌else◌, false, true, IfOk, OnOk, Some, length};
 ghost use Rattle.std.specs.List.{AllZip};
-ghost use Rattle.discretise.specs.Tracks.{AreGridTracks, AreInRange, AreSmall, IsSmall};
+ghost use Rattle.discretise.specs.Tracks.{AreInRange, AreSmall, IsSmall};
 ghost use Rattle.discretise.specs.Stations.{AreMarkedNames, IsStationOf, MarksName, cell_ids};
 
 use crate::tracks::GridTrack;

@@ -1,9 +1,9 @@
 //! Trains and their stops, in cells and steps.
 
-ghost use Rattle.std.specs.Prelude.{◌≡◌, ◌<◌, ◌≤◌, ◌+◌, ◌^◌, ◌∷◌, [], All, IfOk, length, map, slice_index_or};
+ghost use Rattle.std.specs.Prelude.{◌≡◌, ◌<◌, ◌≤◌, [], All, IfOk, length, map, slice_index_or};
 ghost use Rattle.std.specs.List.{AllZip};
-ghost use Rattle.cell_net.specs.declared.limits.TheConstants.{ADVANCE, LENGTH, STEPS};
-ghost use Rattle.discretise.specs.Rounding.{HasSteps, advance_of as advance_in_step, length_in_cells as cells_of_length, step_count as steps_of_horizon};
+ghost use Rattle.cell_net.specs.declared.limits.TheConstants.{STEPS};
+ghost use Rattle.discretise.specs.Rounding.{HasSteps, step_count as steps_of_horizon};
 ghost use Rattle.cell_net.specs.Space.{head_of, tail_of};
 ghost use Rattle.discretise.specs.Trains.{HasItsEnds, HasOneEnd, HasShortStops, IsOneEnd, IsShortStop, IsTrainBetween, stop_of as stop_in_steps};
 ghost use Rattle.discretise.specs.Refusals.{FitsGrid};

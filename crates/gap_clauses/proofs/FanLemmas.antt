@@ -7,7 +7,7 @@ use Rattle.std.proofs.lemmas.List.Elements.{All-cons, All-head, All-tail, All-pu
 use Rattle.std.proofs.lemmas.List.Sums.{length-filter}
 use Rattle.cell_net.specs.declared.ids.CellId.{CellId}
 use Rattle.gap_clauses.specs.Walks.{Step, end_of}
-use Rattle.gap_clauses.specs.Fans.{AreListsOf, IsOver, ends_in, walk_at, walks_to}
+use Rattle.gap_clauses.specs.Fans.{AreListsOf, HasTooManyWalks, ends_in, walk_at, walks_to}
 use Rattle.gap_clauses.proofs.ListLemmas.{filter_yes, filter_no}
 
 pub ends_yes : (first f : CellId) (w : List Step) → (end_of first w).0 ≡ f.0 → ends_in first f w ≡ true
@@ -92,8 +92,8 @@ pub count_is : (first cell : CellId) (walks : List (List Step)) (lists : List (L
 count_is first cell walks lists are within = sym (length-map (get_or lists cell.0 []) (walk_at walks)) ∙ ap length (are.lead_there cell within)
 
 -- with one walk more to a cell that has 64 there are too many
-pub over_full : (first cell : CellId) (walks : List (List Step)) (w : List Step) (lists : List (List ℕ)) → AreListsOf first walks lists → cell.0 < length lists → end_of first w ≡ cell → 64 ≤ length (get_or lists cell.0 []) → IsOver first (walks ++ w ∷ [])
-unfolding IsOver
+pub over_full : (first cell : CellId) (walks : List (List Step)) (w : List Step) (lists : List (List ℕ)) → AreListsOf first walks lists → cell.0 < length lists → end_of first w ≡ cell → 64 ≤ length (get_or lists cell.0 []) → HasTooManyWalks first (walks ++ w ∷ [])
+unfolding HasTooManyWalks
 over_full first cell walks w lists are within ends full =
     let count = count_is first cell walks lists are within in
     let more : length (walks_to first (walks ++ w ∷ []) cell) ≡ length (walks_to first walks cell) + 1 = ap length (to_more first cell walks w (ap (λ (c : CellId). c.0) ends)) ∙ length_push (walks_to first walks cell) w in

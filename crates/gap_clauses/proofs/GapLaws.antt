@@ -97,7 +97,7 @@ walks_of_is nodes fans e f fan within same low =
     ap (λ gs. get_or gs f.0 []) row ∙ (get_or-map (candidates_to nodes fan) (map cell_of (range_with_len 0 fan.cells)) f.0 f [] (omega (arith, low, length-map-range_with_len cell_of 0 fan.cells)) ∙ ap (candidates_to nodes fan) at)
 
 -- no cells, no walks
-past_end : {X : Type 0} (xs : List X) (k : ℕ) (d : X) → length xs ≤ k → get_or xs k d ≡ d
+pub past_end : {X : Type 0} (xs : List X) (k : ℕ) (d : X) → length xs ≤ k → get_or xs k d ≡ d
 past_end [] k d past = refl
 past_end (x ∷ xs) zero d past = absurd (omega arith)
 past_end (x ∷ xs) (suc k) d past = past_end xs k d (omega arith)

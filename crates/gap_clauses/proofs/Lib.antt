@@ -12,3 +12,5 @@ mod FanLemmas
 mod SearchLemmas
 mod GapLaws
 mod MarkLemmas
+mod SpanLemmas
+mod OnceLaws

@@ -9,7 +9,7 @@ use Rattle.cell_net.specs.Rules.{IsInstance}
 use Rattle.cell_net.specs.declared.ids.CellId.{CellId}
 use Rattle.cell_net.specs.declared.ids.NodeId.{NodeId}
 use Rattle.cell_net.specs.declared.parts.InstanceParts.{InstanceParts}
-use Rattle.gap_clauses.specs.Walks.{Step, Shares, IsWalkFrom, IsLess, IsWalkBefore, end_of, node_numbers, cell_numbers}
+use Rattle.gap_clauses.specs.Walks.{Step, SharesNode, IsWalkFrom, IsLess, IsWalkBefore, end_of, node_numbers, cell_numbers}
 use Rattle.gap_clauses.specs.Fans.{behind, AreListed, IsOverNodes, IsUpTo, GoesOnOver, IsDone, IsSkipped, GoesOverNext}
 use Rattle.gap_clauses.proofs.ListLemmas.{nothing_in_nil}
 use Rattle.gap_clauses.proofs.WalkLaws.{parted, same_node, step_to, walk_push, walk_split, shares_node}
@@ -167,7 +167,7 @@ pub record IsBegun (p : InstanceParts) (e : CellId) (ms : List ℕ) (n : ℕ) : 
   pub node : NodeId
   pub cell : CellId
   pub node_is : node.0 ≡ n
-  pub shares : Shares p (end_of e begin) node cell
+  pub shares : SharesNode p (end_of e begin) node cell
   pub longer_walk : IsWalkFrom p e (begin ++ step_to node cell ∷ [])
 
 pub begun : (p : InstanceParts) (e : CellId) (ms : List ℕ) (n : ℕ) (w : List Step) (rest : List ℕ) → IsWalkFrom p e w → node_numbers w ≡ ms ++ n ∷ rest → IsBegun p e ms n

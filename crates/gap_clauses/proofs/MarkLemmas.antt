@@ -16,7 +16,7 @@ use Rattle.cell_net.specs.declared.ids.CandidateId.{CandidateId}
 use Rattle.cell_net.specs.declared.ids.NodeId.{NodeId}
 use Rattle.cell_net.specs.declared.parts.InstanceParts.{InstanceParts}
 use Rattle.gap_clauses.specs.Fans.{has_node}
-use Rattle.gap_clauses.specs.Searched.{AreCandidateNodes, AreMarks, is_marked}
+use Rattle.gap_clauses.specs.Searched.{AreCandidateNodes, AreMarks, is_marked_candidate}
 use Rattle.gap_clauses.specs.Views.{candidate_of, candidates_on, is_on}
 use Rattle.gap_clauses.specs.Walks.{Step}
 
@@ -106,31 +106,31 @@ filter_alike t u (x ∷ xs) same =
     ap (λ b. cond b (x ∷ filter t xs) (filter t xs)) (All-head (λ x. t x ≡ u x) x xs same) ∙ ap (λ ys. cond (u x) (x ∷ ys) ys) rest
 
 -- one candidate more, marked or not
-pub marked_more : (marks : List Bool) (old now new : List CandidateId) (n : ℕ) (c : CandidateId) → now ≡ old ++ filter (is_marked marks) (map candidate_of (range_with_len 0 n)) → get_or marks n false ≡ true → c.0 ≡ n → new ≡ now ++ c ∷ [] →
-    new ≡ old ++ filter (is_marked marks) (map candidate_of (range_with_len 0 (n + 1)))
-unfolding is_marked
+pub marked_more : (marks : List Bool) (old now new : List CandidateId) (n : ℕ) (c : CandidateId) → now ≡ old ++ filter (is_marked_candidate marks) (map candidate_of (range_with_len 0 n)) → get_or marks n false ≡ true → c.0 ≡ n → new ≡ now ++ c ∷ [] →
+    new ≡ old ++ filter (is_marked_candidate marks) (map candidate_of (range_with_len 0 (n + 1)))
+unfolding is_marked_candidate
 marked_more marks old now new n c before marked number is =
-    let more = filter_of_map_range_with_len_more (is_marked marks) candidate_of 0 n n (omega arith) in
+    let more = filter_of_map_range_with_len_more (is_marked_candidate marks) candidate_of 0 n n (omega arith) in
     let same : c ≡ candidate_of n = λ i. record { 0 = number i } in
-    let one : filter (is_marked marks) (map candidate_of (range_with_len 0 (n + 1))) ≡ filter (is_marked marks) (map candidate_of (range_with_len 0 n)) ++ candidate_of n ∷ [] = more ∙ ap (λ b. filter (is_marked marks) (map candidate_of (range_with_len 0 n)) ++ cond b (candidate_of n ∷ []) []) marked in
-    is ∙ (ap (λ cs. cs ++ c ∷ []) before ∙ (append_assoc old (filter (is_marked marks) (map candidate_of (range_with_len 0 n))) (c ∷ []) ∙ (ap (λ d. old ++ (filter (is_marked marks) (map candidate_of (range_with_len 0 n)) ++ d ∷ [])) same ∙ ap (λ cs. old ++ cs) (sym one))))
+    let one : filter (is_marked_candidate marks) (map candidate_of (range_with_len 0 (n + 1))) ≡ filter (is_marked_candidate marks) (map candidate_of (range_with_len 0 n)) ++ candidate_of n ∷ [] = more ∙ ap (λ b. filter (is_marked_candidate marks) (map candidate_of (range_with_len 0 n)) ++ cond b (candidate_of n ∷ []) []) marked in
+    is ∙ (ap (λ cs. cs ++ c ∷ []) before ∙ (append_assoc old (filter (is_marked_candidate marks) (map candidate_of (range_with_len 0 n))) (c ∷ []) ∙ (ap (λ d. old ++ (filter (is_marked_candidate marks) (map candidate_of (range_with_len 0 n)) ++ d ∷ [])) same ∙ ap (λ cs. old ++ cs) (sym one))))
 
-pub marked_less : (marks : List Bool) (old now new : List CandidateId) (n : ℕ) → now ≡ old ++ filter (is_marked marks) (map candidate_of (range_with_len 0 n)) → get_or marks n false ≡ false → new ≡ now →
-    new ≡ old ++ filter (is_marked marks) (map candidate_of (range_with_len 0 (n + 1)))
-unfolding is_marked
+pub marked_less : (marks : List Bool) (old now new : List CandidateId) (n : ℕ) → now ≡ old ++ filter (is_marked_candidate marks) (map candidate_of (range_with_len 0 n)) → get_or marks n false ≡ false → new ≡ now →
+    new ≡ old ++ filter (is_marked_candidate marks) (map candidate_of (range_with_len 0 (n + 1)))
+unfolding is_marked_candidate
 marked_less marks old now new n before marked is =
-    let more = filter_of_map_range_with_len_more (is_marked marks) candidate_of 0 n n (omega arith) in
-    let one : filter (is_marked marks) (map candidate_of (range_with_len 0 (n + 1))) ≡ filter (is_marked marks) (map candidate_of (range_with_len 0 n)) =
-    more ∙ (ap (λ b. filter (is_marked marks) (map candidate_of (range_with_len 0 n)) ++ cond b (candidate_of n ∷ []) []) marked ∙ append-nil (filter (is_marked marks) (map candidate_of (range_with_len 0 n)))) in
+    let more = filter_of_map_range_with_len_more (is_marked_candidate marks) candidate_of 0 n n (omega arith) in
+    let one : filter (is_marked_candidate marks) (map candidate_of (range_with_len 0 (n + 1))) ≡ filter (is_marked_candidate marks) (map candidate_of (range_with_len 0 n)) =
+    more ∙ (ap (λ b. filter (is_marked_candidate marks) (map candidate_of (range_with_len 0 n)) ++ cond b (candidate_of n ∷ []) []) marked ∙ append-nil (filter (is_marked_candidate marks) (map candidate_of (range_with_len 0 n)))) in
     is ∙ (before ∙ ap (λ cs. old ++ cs) (sym one))
 
 -- what is marked are the candidates on the walk
-pub marked_are : (nodes : List NodeId) (walk : List Step) (marks : List Bool) → AreMarks nodes walk marks → filter (is_marked marks) (map candidate_of (range_with_len 0 (length nodes))) ≡ candidates_on nodes walk
-unfolding is_marked candidates_on
-marked_are nodes walk marks are = filter_alike (is_marked marks) (is_on nodes walk) (map candidate_of (range_with_len 0 (length nodes))) (λ k d within.
+pub marked_are : (nodes : List NodeId) (walk : List Step) (marks : List Bool) → AreMarks nodes walk marks → filter (is_marked_candidate marks) (map candidate_of (range_with_len 0 (length nodes))) ≡ candidates_on nodes walk
+unfolding is_marked_candidate candidates_on
+marked_are nodes walk marks are = filter_alike (is_marked_candidate marks) (is_on nodes walk) (map candidate_of (range_with_len 0 (length nodes))) (λ k d within.
     let size = length-map-range_with_len candidate_of 0 (length nodes) in
     let at : get_or (map candidate_of (range_with_len 0 (length nodes))) k d ≡ candidate_of k = get_or-map-range_with_len candidate_of 0 (length nodes) k k d (omega arith) (let e : 0 + k ≡ k = omega arith in e) in
-    subst (λ c. is_marked marks c ≡ is_on nodes walk c) (sym at) (are k (omega arith)))
+    subst (λ c. is_marked_candidate marks c ≡ is_on nodes walk c) (sym at) (are k (omega arith)))
 
 -- an instance's candidates rise
 rise_one : (p : InstanceParts) → IsInstance p → (i : ℕ) (d : NodeId) → i + 1 < length p.candidates → (get_or p.candidates i d).0 < (get_or p.candidates (i + 1) d).0

@@ -10,7 +10,7 @@ use Rattle.cell_net.specs.declared.ids.CellId.{CellId}
 use Rattle.cell_net.specs.declared.ids.NodeId.{NodeId}
 use Rattle.cell_net.specs.declared.cells.CellSpec.{CellSpec}
 use Rattle.cell_net.specs.declared.parts.InstanceParts.{InstanceParts}
-use Rattle.gap_clauses.specs.Walks.{Shares}
+use Rattle.gap_clauses.specs.Walks.{SharesNode}
 use Rattle.gap_clauses.specs.Fans.{AreBehind, AreBehindBelow, AreRowsBelow}
 use Rattle.gap_clauses.proofs.WalkLaws.{same_cell, shares_cell}
 
@@ -22,12 +22,12 @@ none_behind p cell n = record {
 
 -- one cell more, that is one of them
 pub behind_more : (p : InstanceParts) (cell : CellId) (n : NodeId) (c : CellId) (found new : List CellId) → AreBehindBelow p cell n c.0 found →
-    Shares p cell n c → c ≢ cell → new ≡ found ++ c ∷ [] → AreBehindBelow p cell n (c.0 + 1) new
+    SharesNode p cell n c → c ≢ cell → new ≡ found ++ c ∷ [] → AreBehindBelow p cell n (c.0 + 1) new
 behind_more p cell n c found new old here other is = subst (AreBehindBelow p cell n (c.0 + 1)) (sym is) (record {
   which = λ d. (
     λ there. elim (Contains-push_cases found c d there) [
       | inl was ↦ let both = (old.which d).0 was in (omega (arith, both.0), both.1, both.2)
-      | inr same ↦ (omega (arith, ap (λ (x : CellId). x.0) same), subst (Shares p cell n) same here, subst (λ (x : CellId). x ≢ cell) same other)
+      | inr same ↦ (omega (arith, ap (λ (x : CellId). x.0) same), subst (SharesNode p cell n) same here, subst (λ (x : CellId). x ≢ cell) same other)
     ],
     λ both. elim (cases_eq d.0 c.0) [
       | inl same ↦ subst (Contains (found ++ c ∷ [])) (sym (same_cell d c same)) (Contains-push found c)
@@ -39,12 +39,12 @@ behind_more p cell n c found new old here other is = subst (AreBehindBelow p cel
 
 -- one cell more, that isn't
 pub behind_less : (p : InstanceParts) (cell : CellId) (n : NodeId) (c : CellId) (found : List CellId) → AreBehindBelow p cell n c.0 found →
-    ¬ (Shares p cell n c × (c ≢ cell)) → AreBehindBelow p cell n (c.0 + 1) found
+    ¬ (SharesNode p cell n c × (c ≢ cell)) → AreBehindBelow p cell n (c.0 + 1) found
 behind_less p cell n c found old never = record {
   which = λ d. (
     λ there. let both = (old.which d).0 there in (omega (arith, both.0), both.1, both.2),
     λ both. elim (cases_eq d.0 c.0) [
-      | inl same ↦ absurd (never (subst (λ (x : CellId). Shares p cell n x × (x ≢ cell)) (same_cell d c same) (both.1, both.2)))
+      | inl same ↦ absurd (never (subst (λ (x : CellId). SharesNode p cell n x × (x ≢ cell)) (same_cell d c same) (both.1, both.2)))
       | inr apart ↦ (old.which d).1 (omega (arith, both.0), both.1, both.2)
     ],
   );

@@ -12,7 +12,7 @@ use Rattle.cell_net.specs.declared.ids.CellId.{CellId}
 use Rattle.cell_net.specs.declared.ids.NodeId.{NodeId}
 use Rattle.cell_net.specs.declared.cells.CellSpec.{CellSpec}
 use Rattle.cell_net.specs.declared.parts.InstanceParts.{InstanceParts}
-use Rattle.gap_clauses.specs.Walks.{Step, Shares, IsWalkFrom, IsLess, IsWalkBefore, end_of, node_numbers, cell_numbers, step_cells}
+use Rattle.gap_clauses.specs.Walks.{Step, SharesNode, IsWalkFrom, IsLess, IsWalkBefore, end_of, node_numbers, cell_numbers, step_cells}
 use Rattle.gap_clauses.specs.Fans.{has_node, visits, longer, over, all_over, behind, AreBehind, AreRows, AreListed, IsOverNodes}
 use Rattle.gap_clauses.proofs.ListLemmas.{nothing_in_nil}
 use Rattle.gap_clauses.proofs.OrderLaws.{not_less_itself}
@@ -71,6 +71,12 @@ pub over_no : (p : InstanceParts) (rows : List (List CellId)) (first : CellId) (
 unfolding over
 over_no p rows first n w has = rw has refl
 
+pub over_nowhere : (p : InstanceParts) (rows : List (List CellId)) (first : CellId) (n : NodeId) (w : List Step) → behind p rows (end_of first w) n ≡ [] → over p rows first n w ≡ []
+over_nowhere p rows first n w nowhere = elim (cases_Bool (has_node n w)) [
+  | inl has ↦ over_no p rows first n w has
+  | inr new ↦ over_yes p rows first n w new ∙ ap (flat_map (longer first n w)) nowhere
+]
+
 -- a walk that is one step longer over the node
 record IsLonger (p : InstanceParts) (rows : List (List CellId)) (first : CellId) (n : NodeId) (w u : List Step) : Type 0 where
   pub cell : CellId
@@ -104,7 +110,7 @@ to_over p rows first n w c new_node new_cell among =
     subst (λ us. Contains us (w ++ step_to n c ∷ [])) (sym (over_yes p rows first n w new_node)) (Contains-flat_map (longer first n w) (behind p rows (end_of first w) n) c (w ++ step_to n c ∷ []) among one)
 
 -- the end of a walk is among its cells
-end_among : (e : CellId) (w : List Step) → Contains (e ∷ step_cells w) (end_of e w)
+pub end_among : (e : CellId) (w : List Step) → Contains (e ∷ step_cells w) (end_of e w)
 end_among e [] = (0, omega arith, refl)
 end_among e (s ∷ w) = let there = end_among s.cell w in (suc there.0, omega (arith, there.1), there.2)
 
@@ -169,7 +175,7 @@ group_over p rows e ms n group are here old = record {
         let split = walk_split p e part.begin part.step part.rest (subst (IsWalkFrom p e) part.is both.0) in
         let node_is : part.step.node ≡ n = same_node _ _ part.step_is in
         let whole : u ≡ part.begin ++ step_to n part.step.cell ∷ [] = part.is ∙ (ap (λ (r : List Step). part.begin ++ part.step ∷ r) rest_is ∙ ap (λ (m : NodeId). part.begin ++ step_to m part.step.cell ∷ []) node_is) in
-        let shares : Shares p (end_of e part.begin) n part.step.cell = subst (λ (m : NodeId). Shares p (end_of e part.begin) m part.step.cell) node_is split.shares in
+        let shares : SharesNode p (end_of e part.begin) n part.step.cell = subst (λ (m : NodeId). SharesNode p (end_of e part.begin) m part.step.cell) node_is split.shares in
         let new_node : has_node n part.begin ≡ false = subst (λ (m : NodeId). has_node m part.begin ≡ false) node_is split.new_node in
         let among : Contains (behind p rows (end_of e part.begin) n) part.step.cell = ((behind_is p rows (end_of e part.begin) n are (end_is_cell p e part.begin (end_of e part.begin) here split.begin.leads)).which part.step.cell).1
         (shares, λ same. no_visit e part.step.cell part.begin split.new_cell (subst (Contains (e ∷ step_cells part.begin)) (sym same) (end_among e part.begin))) in

@@ -21,7 +21,7 @@ use Rattle.gap_clauses.specs.declared.fan.Stop.{Stop}
 use Rattle.gap_clauses.specs.declared.fan.Stop.TheVariants.{TooMany, Memory}
 use Rattle.gap_clauses.specs.Walks.{Step, IsWalk, IsWalkFrom, IsWalkBefore, end_of, node_numbers}
 use Rattle.gap_clauses.specs.Crowds.{IsCrowdedFrom}
-use Rattle.gap_clauses.specs.Fans.{FanParts, AreListed, AreRows, GoesOverNext, IsDone, IsGroup, IsOver, IsOverNodes, IsSearchState, IsFanOf, IsSearchStop, IsSkipped, IsStop, IsUpTo, LeadToCells, all_over, ends_in, nodes_at, walk_at, walks_to}
+use Rattle.gap_clauses.specs.Fans.{FanParts, AreListed, AreRows, GoesOverNext, IsDone, IsGroup, HasTooManyWalks, IsOverNodes, IsSearchState, IsFanOf, IsSearchStop, IsSkipped, IsStop, IsUpTo, LeadToCells, all_over, ends_in, nodes_at, walk_at, walks_to}
 use Rattle.gap_clauses.proofs.ListLemmas.{Contains-from_filter}
 use Rattle.gap_clauses.proofs.OrderLaws.{not_before_back}
 use Rattle.gap_clauses.proofs.ListedLaws.{all_listed, first_group, first_listed, done_alone, done_last, done_more, done_next, listed_push}
@@ -39,8 +39,8 @@ take_below (suc k) [] = omega arith
 take_below (suc k) (x ∷ xs) = omega (arith, take_below k xs)
 
 -- what stops a search stops one that goes further
-over_more : (first : CellId) (walks more : List (List Step)) → IsOver first walks → IsOver first (walks ++ more)
-unfolding IsOver
+over_more : (first : CellId) (walks more : List (List Step)) → HasTooManyWalks first walks → HasTooManyWalks first (walks ++ more)
+unfolding HasTooManyWalks
 over_more first walks more (f, many) =
     let one = length-filter (ends_in first f) walks in
     let both = length-filter (ends_in first f) (walks ++ more) in
@@ -52,11 +52,11 @@ stop_more first walks more TooMany is = over_more first walks more is
 stop_more first walks more Memory is = tt
 
 pub stop_same : (first : CellId) (walks others : List (List Step)) (stop : Stop) → walks ≡ others → IsStop first others stop → IsStop first walks stop
-stop_same first walks others TooMany same is = subst (IsOver first) (sym same) is
+stop_same first walks others TooMany same is = subst (HasTooManyWalks first) (sym same) is
 stop_same first walks others Memory same is = tt
 
 pub stop_alike : (first again : CellId) (walks : List (List Step)) (stop : Stop) → first ≡ again → IsStop again walks stop → IsStop first walks stop
-stop_alike first again walks TooMany same is = subst (λ e. IsOver e walks) (sym same) is
+stop_alike first again walks TooMany same is = subst (λ e. HasTooManyWalks e walks) (sym same) is
 stop_alike first again walks Memory same is = tt
 
 -- one item more of a list gives its piece more
@@ -105,8 +105,8 @@ before_differs : (one other : List Step) → IsWalkBefore one other → one ≢ 
 before_differs one other before same = let self : IsWalkBefore one one = subst (IsWalkBefore one) (sym same) before in not_before_back one one self self
 
 -- listed walks with too many to a cell
-pub crowded : (p : InstanceParts) (e : CellId) (P : List Step → Type 0) (walks : List (List Step)) → AreListed p e P walks → IsOver e walks → IsCrowdedFrom p e
-unfolding IsOver ends_in
+pub crowded : (p : InstanceParts) (e : CellId) (P : List Step → Type 0) (walks : List (List Step)) → AreListed p e P walks → HasTooManyWalks e walks → IsCrowdedFrom p e
+unfolding HasTooManyWalks ends_in
 crowded p e P walks listed (f, many) = (
   f,
   record {
@@ -265,6 +265,9 @@ visit_done p rows fan from end below first now ready is same kept listed goes =
 
 pub visit_leads : (p : InstanceParts) (first e : CellId) (P : List Step → Type 0) (walks : List (List Step)) → first ≡ e → IsCell p e → AreListed p e P walks → LeadToCells p first walks
 visit_leads p first e P walks same here listed = subst (λ x. LeadToCells p x walks) (sym same) (listed_lead p e P walks here listed)
+
+pub visit_walks : (p : InstanceParts) (first e : CellId) (P : List Step → Type 0) (walks : List (List Step)) → first ≡ e → AreListed p e P walks → All (IsWalkFrom p first) walks
+visit_walks p first e P walks same listed = subst (λ x. All (IsWalkFrom p x) walks) (sym same) (λ k d within. ((listed.each (get_or walks k d)).0 (Contains-get_or walks k d within)).0)
 
 -- what the loop keeps: behind a group that was visited, and where there was none
 pub visit_on : (p : InstanceParts) (rows : List (List CellId)) (fan next last : FanParts) (from begin n m : ℕ) (now : List (List Step)) → IsSearchState p rows fan from → AreFurther p fan.first (nodes_at fan.walks from) n now next.walks →

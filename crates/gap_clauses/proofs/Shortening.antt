@@ -17,7 +17,7 @@ use Rattle.cell_net.specs.declared.ids.SectionId.{SectionId}
 use Rattle.cell_net.specs.declared.ids.CandidateId.{CandidateId}
 use Rattle.cell_net.specs.declared.cells.CellSpec.{CellSpec}
 use Rattle.cell_net.specs.declared.parts.InstanceParts.{InstanceParts}
-use Rattle.gap_clauses.specs.Walks.{Step, step_nodes, step_cells, Shares, Leads, IsWalk}
+use Rattle.gap_clauses.specs.Walks.{Step, step_nodes, step_cells, SharesNode, Leads, IsWalk}
 use Rattle.gap_clauses.specs.Laws.{IsCut, CutSeparates}
 
 -- a list has a cell or not, and a node alike
@@ -76,7 +76,7 @@ walk_rest p e s steps f walk = record {
   no_node_twice = AllPairs-tail ◌≢◌ s.node (step_nodes steps) walk.no_node_twice;
 }
 
-walk_more : (p : InstanceParts) (e : CellId) (s : Step) (steps : List Step) (f : CellId) → Shares p e s.node s.cell → ¬ Contains (s.cell ∷ step_cells steps) e → ¬ Contains (step_nodes steps) s.node → IsWalk p s.cell steps f → IsWalk p e (s ∷ steps) f
+walk_more : (p : InstanceParts) (e : CellId) (s : Step) (steps : List Step) (f : CellId) → SharesNode p e s.node s.cell → ¬ Contains (s.cell ∷ step_cells steps) e → ¬ Contains (step_nodes steps) s.node → IsWalk p s.cell steps f → IsWalk p e (s ∷ steps) f
 walk_more p e s steps f shares new_cell new_node walk = record {
   leads = (shares, walk.leads);
   no_cell_twice = to_fresh e (s.cell ∷ step_cells steps) new_cell walk.no_cell_twice;
@@ -84,7 +84,7 @@ walk_more p e s steps f shares new_cell new_node walk = record {
 }
 
 -- two cells that share a node are of one section
-pub same_section : (p : InstanceParts) (e : CellId) (n : NodeId) (f : CellId) (k : ℕ) → Shares p e n f → IsInSection p k e → IsInSection p k f
+pub same_section : (p : InstanceParts) (e : CellId) (n : NodeId) (f : CellId) (k : ℕ) → SharesNode p e n f → IsInSection p k e → IsInSection p k f
 same_section p e n f k shares here = record {
   cell = shares.other;
   is = shares.is_other;
@@ -93,7 +93,7 @@ same_section p e n f k shares here = record {
 }
 
 -- cells of one section that both have the node at an end share it
-share : (p : InstanceParts) (e c : CellId) (n : NodeId) (k : ℕ) → IsInSection p k e → IsInSection p k c → (one other : CellSpec) → slice_get p.cells e.0 ≡ Some one → slice_get p.cells c.0 ≡ Some other → IsAtEnd one n → IsAtEnd other n → Shares p e n c
+share : (p : InstanceParts) (e c : CellId) (n : NodeId) (k : ℕ) → IsInSection p k e → IsInSection p k c → (one other : CellSpec) → slice_get p.cells e.0 ≡ Some one → slice_get p.cells c.0 ≡ Some other → IsAtEnd one n → IsAtEnd other n → SharesNode p e n c
 share p e c n k in_e in_c one other is_one is_other at_one at_other = record {
   one = one;
   other = other;
@@ -182,7 +182,7 @@ module _ (p : InstanceParts) (borders : List CandidateId) where
     pub free : AreFree steps
 
   -- one cell before a walk: a walk from that cell
-  before_walk : (e : CellId) (n : NodeId) (c f : CellId) → Shares p e n c → ¬ IsBorder p borders n → FreeWalk c f → FreeWalk e f
+  before_walk : (e : CellId) (n : NodeId) (c f : CellId) → SharesNode p e n c → ¬ IsBorder p borders n → FreeWalk c f → FreeWalk e f
   before_walk e n c f shares open_node old = elim (has_cell (c ∷ step_cells old.steps) e) [
     | inl there ↦ let rest = rest_from_cell c e f old.steps old.walk old.free there in record { steps = rest.steps; walk = rest.walk; free = rest.free }
     | inr new ↦ elim (has_node (step_nodes old.steps) n) [
@@ -204,7 +204,7 @@ module _ (p : InstanceParts) (borders : List CandidateId) where
     ]
   ]
 
-  shares_from_meet : (e f : CellId) (m : Meet p borders e f) → Shares p e m.node f
+  shares_from_meet : (e f : CellId) (m : Meet p borders e f) → SharesNode p e m.node f
   shares_from_meet e f m = record { one = m.one; other = m.other; is_one = m.is_one; is_other = m.is_other; one_section = m.one_section; at_one = m.at_one; at_other = m.at_other }
 
   nowhere : (e f : CellId) → e ≡ f → FreeWalk e f

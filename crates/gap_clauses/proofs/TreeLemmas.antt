@@ -4,13 +4,12 @@ use Rattle.std.specs.Prelude.{◌||◌, nat_eq}
 use Rattle.std.specs.List.{list_any}
 use Rattle.std.proofs.lemmas.Bool.{cases_lt, eq-eqb, ne_eqb}
 use Rattle.std.proofs.lemmas.List.Folds.{list_any-append}
-use Rattle.cell_net.specs.declared.ids.CellId.{CellId}
 use Rattle.cell_net.specs.declared.ids.NodeId.{NodeId}
 use Rattle.std.proofs.lemmas.List.{length_push, get_or_push, get_or_append_left}
 use Rattle.gap_clauses.specs.declared.tree.Branch.{Branch}
 use Rattle.gap_clauses.specs.Walks.{Step}
-use Rattle.gap_clauses.specs.Fans.{has_cell, has_node, walk_at}
-use Rattle.gap_clauses.specs.Trees.{AreBranches, grown_from, lengthened, step_of, walks_in}
+use Rattle.gap_clauses.specs.Fans.{has_node, walk_at}
+use Rattle.gap_clauses.specs.Trees.{AreBranches, grown_from, lengthened, step_of, walks_of_tree}
 
 grown_push : (walks : List (List Step)) (branches : List Branch) (b : Branch) → grown_from walks (branches ++ b ∷ []) ≡ grown_from walks branches ++ lengthened (grown_from walks branches) b ∷ []
 grown_push walks [] b = refl
@@ -20,16 +19,16 @@ grown_length : (walks : List (List Step)) (branches : List Branch) → length (g
 grown_length walks [] = omega arith
 grown_length walks (c ∷ branches) = omega (arith, grown_length (walks ++ lengthened walks c ∷ []) branches, length_push walks (lengthened walks c))
 
-pub walks_push : (branches : List Branch) (b : Branch) → walks_in (branches ++ b ∷ []) ≡ walks_in branches ++ lengthened (walks_in branches) b ∷ []
-unfolding walks_in
+pub walks_push : (branches : List Branch) (b : Branch) → walks_of_tree (branches ++ b ∷ []) ≡ walks_of_tree branches ++ lengthened (walks_of_tree branches) b ∷ []
+unfolding walks_of_tree
 walks_push branches b = grown_push ([] ∷ []) branches b
 
-pub walks_length : (branches : List Branch) → length (walks_in branches) ≡ length branches + 1
-unfolding walks_in
+pub walks_length : (branches : List Branch) → length (walks_of_tree branches) ≡ length branches + 1
+unfolding walks_of_tree
 walks_length branches = omega (arith, grown_length ([] ∷ []) branches)
 
-pub first_walk : walks_in [] ≡ [] ∷ []
-unfolding walks_in
+pub first_walk : walks_of_tree [] ≡ [] ∷ []
+unfolding walks_of_tree
 first_walk = refl
 
 pub branches_push : (branches new : List Branch) (b : Branch) → AreBranches branches → b.before < length branches + 1 → new ≡ branches ++ b ∷ [] → AreBranches new
@@ -70,29 +69,29 @@ grown_at walks (c ∷ branches) (suc k) b within same low =
     ap (λ m. get_or (grown_from (walks ++ lengthened walks c ∷ []) branches) m []) at ∙ grown_at (walks ++ lengthened walks c ∷ []) branches k b (omega arith) same (omega arith)
 
 -- the first walk has no step
-pub walk_first : (branches : List Branch) → walk_at (walks_in branches) 0 ≡ []
-unfolding walks_in
+pub walk_first : (branches : List Branch) → walk_at (walks_of_tree branches) 0 ≡ []
+unfolding walks_of_tree
 walk_first branches = kept_at ([] ∷ []) branches 0 (omega arith)
 
 -- each other is one step longer than the walk of its branch
-pub walk_step : (branches : List Branch) (walks : List (List Step)) (at : ℕ) (b : Branch) → AreBranches branches → walks_in branches ≡ walks → 0 < at → at < length walks → get_or branches (at - 1) b ≡ b → walk_at walks at ≡ walk_at walks b.before ++ step_of b ∷ []
-unfolding walks_in
+pub walk_step : (branches : List Branch) (walks : List (List Step)) (at : ℕ) (b : Branch) → AreBranches branches → walks_of_tree branches ≡ walks → 0 < at → at < length walks → get_or branches (at - 1) b ≡ b → walk_at walks at ≡ walk_at walks b.before ++ step_of b ∷ []
+unfolding walks_of_tree
 walk_step branches walks at b are is some within same =
-    let size : length (walks_in branches) ≡ length branches + 1 = walks_length branches in
-    let total : length (walks_in branches) ≡ length walks = ap length is in
+    let size : length (walks_of_tree branches) ≡ length branches + 1 = walks_length branches in
+    let total : length (walks_of_tree branches) ≡ length walks = ap length is in
     let low : b.before ≤ at - 1 = subst (λ (c : Branch). c.before ≤ at - 1) same (are.before (at - 1) b (omega arith)) in
     let place : at ≡ 1 + (at - 1) = omega arith in
     subst (λ ws. walk_at ws at ≡ walk_at ws b.before ++ step_of b ∷ []) is
     (ap (λ m. get_or (grown_from ([] ∷ []) branches) m []) place ∙ grown_at ([] ∷ []) branches (at - 1) b (omega arith) same (omega arith))
 
-pub before_lower : (branches : List Branch) (walks : List (List Step)) (at : ℕ) (b : Branch) → AreBranches branches → walks_in branches ≡ walks → 0 < at → at < length walks → get_or branches (at - 1) b ≡ b → b.before < at
+pub before_lower : (branches : List Branch) (walks : List (List Step)) (at : ℕ) (b : Branch) → AreBranches branches → walks_of_tree branches ≡ walks → 0 < at → at < length walks → get_or branches (at - 1) b ≡ b → b.before < at
 before_lower branches walks at b are is some within same =
-    let size : length (walks_in branches) ≡ length branches + 1 = walks_length branches in
-    let total : length (walks_in branches) ≡ length walks = ap length is in
+    let size : length (walks_of_tree branches) ≡ length branches + 1 = walks_length branches in
+    let total : length (walks_of_tree branches) ≡ length walks = ap length is in
     let low : b.before ≤ at - 1 = subst (λ (c : Branch). c.before ≤ at - 1) same (are.before (at - 1) b (omega arith)) in
     omega arith
 
-pub branch_within : (branches : List Branch) (walks : List (List Step)) (at : ℕ) → walks_in branches ≡ walks → 0 < at → at < length walks → at - 1 < length branches
+pub branch_within : (branches : List Branch) (walks : List (List Step)) (at : ℕ) → walks_of_tree branches ≡ walks → 0 < at → at < length walks → at - 1 < length branches
 branch_within branches walks at is some within = omega (arith, walks_length branches, ap length is)
 
 -- the tests of a walk one step longer
@@ -108,24 +107,8 @@ node_elsewhere n w v s is other =
     let e : nat_eq s.node.0 n.0 ≡ false = ne_eqb _ _ other in
     ap (list_any (λ (t : Step). nat_eq t.node.0 n.0)) is ∙ (list_any-append (λ (t : Step). nat_eq t.node.0 n.0) w (s ∷ []) ∙ rw e (or_no (list_any (λ (t : Step). nat_eq t.node.0 n.0) w)))
 
-pub cell_here : (n : CellId) (w v : List Step) (s : Step) → v ≡ w ++ s ∷ [] → s.cell.0 ≡ n.0 → has_cell n v ≡ true
-unfolding has_cell
-cell_here n w v s is same =
-    let e : nat_eq s.cell.0 n.0 ≡ true = eq-eqb _ _ same in
-    ap (list_any (λ (t : Step). nat_eq t.cell.0 n.0)) is ∙ (list_any-append (λ (t : Step). nat_eq t.cell.0 n.0) w (s ∷ []) ∙ rw e (or_true (list_any (λ (t : Step). nat_eq t.cell.0 n.0) w)))
-
-pub cell_elsewhere : (n : CellId) (w v : List Step) (s : Step) → v ≡ w ++ s ∷ [] → s.cell.0 ≢ n.0 → has_cell n v ≡ has_cell n w
-unfolding has_cell
-cell_elsewhere n w v s is other =
-    let e : nat_eq s.cell.0 n.0 ≡ false = ne_eqb _ _ other in
-    ap (list_any (λ (t : Step). nat_eq t.cell.0 n.0)) is ∙ (list_any-append (λ (t : Step). nat_eq t.cell.0 n.0) w (s ∷ []) ∙ rw e (or_no (list_any (λ (t : Step). nat_eq t.cell.0 n.0) w)))
-
 pub no_node_first : (n : NodeId) (w : List Step) → w ≡ [] → has_node n w ≡ false
 unfolding has_node
 no_node_first n w is = ap (list_any (λ (t : Step). nat_eq t.node.0 n.0)) is
-
-pub no_cell_first : (n : CellId) (w : List Step) → w ≡ [] → has_cell n w ≡ false
-unfolding has_cell
-no_cell_first n w is = ap (list_any (λ (t : Step). nat_eq t.cell.0 n.0)) is
 
 pub ruleset tree_laws = (walks_push, walks_length, first_walk)

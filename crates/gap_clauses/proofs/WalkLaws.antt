@@ -13,7 +13,7 @@ use Rattle.cell_net.specs.Rules.{IsInstance}
 use Rattle.cell_net.specs.declared.ids.CellId.{CellId}
 use Rattle.cell_net.specs.declared.ids.NodeId.{NodeId}
 use Rattle.cell_net.specs.declared.parts.InstanceParts.{InstanceParts}
-use Rattle.gap_clauses.specs.Walks.{Step, step_nodes, step_cells, Shares, Leads, IsWalkFrom, end_of, node_numbers}
+use Rattle.gap_clauses.specs.Walks.{Step, step_nodes, step_cells, SharesNode, Leads, IsWalkFrom, end_of, node_numbers}
 use Rattle.gap_clauses.specs.Fans.{has_node, has_cell, visits}
 use Rattle.gap_clauses.specs.Views.{cell_of}
 use Rattle.gap_clauses.proofs.ListLemmas.{in_tail, no_more_than, AllPairs-begin, not_before}
@@ -36,11 +36,11 @@ pub leads_end : (p : InstanceParts) (e : CellId) (w : List Step) (f : CellId) �
 leads_end p e [] f led = led
 leads_end p e (s ∷ w) f led = leads_end p s.cell w f led.1
 
-leads_push : (p : InstanceParts) (e : CellId) (w : List Step) (s : Step) → Leads p e w (end_of e w) → Shares p (end_of e w) s.node s.cell → Leads p e (w ++ s ∷ []) s.cell
+leads_push : (p : InstanceParts) (e : CellId) (w : List Step) (s : Step) → Leads p e w (end_of e w) → SharesNode p (end_of e w) s.node s.cell → Leads p e (w ++ s ∷ []) s.cell
 leads_push p e [] s led shares = (shares, refl)
 leads_push p e (t ∷ w) s led shares = (led.0, leads_push p t.cell w s led.1 shares)
 
-leads_split : (p : InstanceParts) (e : CellId) (w : List Step) (s : Step) (rest : List Step) (f : CellId) → Leads p e (w ++ s ∷ rest) f → Leads p e w (end_of e w) × Shares p (end_of e w) s.node s.cell
+leads_split : (p : InstanceParts) (e : CellId) (w : List Step) (s : Step) (rest : List Step) (f : CellId) → Leads p e (w ++ s ∷ rest) f → Leads p e w (end_of e w) × SharesNode p (end_of e w) s.node s.cell
 leads_split p e [] s rest f led = (refl, led.0)
 leads_split p e (t ∷ w) s rest f led = let below = leads_split p t.cell w s rest f led.1 in ((led.0, below.0), below.1)
 
@@ -103,7 +103,7 @@ no_visit_so e c w none = elim (cases_Bool (nat_eq e.0 c.0)) [
 ]
 
 -- a walk one step longer
-pub walk_push : (p : InstanceParts) (e : CellId) (w : List Step) (n : NodeId) (c : CellId) → IsWalkFrom p e w → Shares p (end_of e w) n c → has_node n w ≡ false → visits e c w ≡ false → IsWalkFrom p e (w ++ step_to n c ∷ [])
+pub walk_push : (p : InstanceParts) (e : CellId) (w : List Step) (n : NodeId) (c : CellId) → IsWalkFrom p e w → SharesNode p (end_of e w) n c → has_node n w ≡ false → visits e c w ≡ false → IsWalkFrom p e (w ++ step_to n c ∷ [])
 walk_push p e w n c walk shares new_node new_cell = record {
   leads = subst (Leads p e (w ++ step_to n c ∷ [])) (sym (end_of_push e w (step_to n c))) (leads_push p e w (step_to n c) walk.leads shares);
   no_cell_twice = subst (λ cs. AllPairs ◌≢◌ (e ∷ cs)) (sym (map_push (λ (s : Step). s.cell) w (step_to n c)))
@@ -115,7 +115,7 @@ walk_push p e w n c walk shares new_node new_cell = record {
 -- a walk up to one of its steps
 pub record IsSplit (p : InstanceParts) (e : CellId) (w : List Step) (s : Step) : Type 0 where
   pub begin : IsWalkFrom p e w
-  pub shares : Shares p (end_of e w) s.node s.cell
+  pub shares : SharesNode p (end_of e w) s.node s.cell
   pub new_node : has_node s.node w ≡ false
   pub new_cell : visits e s.cell w ≡ false
 
@@ -172,10 +172,10 @@ parted (s ∷ w) (m ∷ ms) n behind h =
     }
 
 -- the cells of a walk are cells, and its nodes nodes
-pub shares_cell : (p : InstanceParts) (e : CellId) (n : NodeId) (f : CellId) → Shares p e n f → IsCell p f
+pub shares_cell : (p : InstanceParts) (e : CellId) (n : NodeId) (f : CellId) → SharesNode p e n f → IsCell p f
 shares_cell p e n f shares = slice_get_within p.cells f.0 shares.other shares.is_other
 
-pub shares_node : (p : InstanceParts) (e : CellId) (n : NodeId) (f : CellId) → IsInstance p → Shares p e n f → n.0 < p.nodes
+pub shares_node : (p : InstanceParts) (e : CellId) (n : NodeId) (f : CellId) → IsInstance p → SharesNode p e n f → n.0 < p.nodes
 shares_node p e n f rules shares =
     let good = rules.cells.at_each f.0 shares.other shares.is_other in
     elim shares.at_other [

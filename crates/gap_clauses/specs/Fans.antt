@@ -1,5 +1,5 @@
 -- The walks from one cell, as they are searched and kept, which only this crate's code and proofs see.
-use Rattle.std.specs.Prelude.{◌≡◌, ◌≢◌, ◌<◌, ◌≤◌, ◌+◌, ◌*◌, ◌⊎◌, ◌↔◌, ◌||◌, ℕ, Bool, List, [], ◌∷◌, ◌++◌, Option, Some, None, length, map, cond, drop, All, AllPairs, slice_get, slice_index_or, Contains, nat_eq}
+use Rattle.std.specs.Prelude.{◌≡◌, ◌≢◌, ◌<◌, ◌≤◌, ◌+◌, ◌*◌, ◌⊎◌, ◌↔◌, ◌||◌, ℕ, Bool, false, List, [], ◌∷◌, ◌++◌, Option, Some, None, length, map, cond, drop, All, AllPairs, slice_get, slice_index_or, Contains, nat_eq}
 use Rattle.std.specs.List.{filter, flat_map, list_any, count_by}
 use Rattle.cell_net.specs.Borders.{IsAtEnd}
 use Rattle.cell_net.specs.Rules.{IsInstance}
@@ -8,7 +8,7 @@ use Rattle.cell_net.specs.declared.ids.CellId.{CellId}
 use Rattle.cell_net.specs.declared.ids.NodeId.{NodeId}
 use Rattle.cell_net.specs.declared.cells.CellSpec.{CellSpec}
 use Rattle.cell_net.specs.declared.parts.InstanceParts.{InstanceParts}
-use Rattle.gap_clauses.specs.Walks.{Step, end_of, IsWalkFrom, IsWalkBefore, Shares, IsLess, node_numbers}
+use Rattle.gap_clauses.specs.Walks.{Step, end_of, IsWalkFrom, IsWalkBefore, SharesNode, IsLess, node_numbers}
 use Rattle.gap_clauses.specs.Crowds.{IsCrowdedFrom}
 use Rattle.gap_clauses.specs.declared.fan.Stop.{Stop}
 use Rattle.gap_clauses.specs.declared.fan.Stop.TheVariants.{TooMany, Memory}
@@ -37,6 +37,16 @@ has_cell c steps = list_any (λ s. nat_eq s.cell.0 c.0) steps
 unfoldable pub visits : CellId → CellId → List Step → Bool
 visits first c steps = nat_eq first.0 c.0 || has_cell c steps
 
+-- whether the last of these steps goes over the node
+abbrev pub ends_over : NodeId → List Step → Bool
+ends_over n [] = false
+ends_over n (s ∷ []) = nat_eq s.node.0 n.0
+ends_over n (s ∷ t ∷ steps) = ends_over n (t ∷ steps)
+
+-- no step leads into the cell
+abbrev pub IsNewIn : List Step → CellId → Type 0
+IsNewIn steps c = has_cell c steps ≡ false
+
 -- the walk at that place
 abbrev pub walk_at : List (List Step) → ℕ → List Step
 walk_at walks place = slice_index_or walks place []
@@ -49,22 +59,22 @@ pub record AreListsOf (first : CellId) (walks : List (List Step)) (lists : List 
   pub few : (f : ℕ) → f < length lists → length (slice_index_or lists f []) ≤ 64
 
 -- some cell has too many walks
-unfoldable pub IsOver : CellId → List (List Step) → Type 0
-IsOver first walks = (f : CellId) × (64 < count_by (ends_in first f) walks)
+unfoldable pub HasTooManyWalks : CellId → List (List Step) → Type 0
+HasTooManyWalks first walks = (f : CellId) × (64 < count_by (ends_in first f) walks)
 
 -- why a search may stop behind these walks
 abbrev pub IsStop : CellId → List (List Step) → Stop → Type 0
-IsStop first walks TooMany = IsOver first walks
+IsStop first walks TooMany = HasTooManyWalks first walks
 IsStop first walks Memory = Unit {0}
 
 -- the other cells of the cell's section at the node, rising
 pub record AreBehind (p : InstanceParts) (cell : CellId) (n : NodeId) (found : List CellId) : Type 0 where
-  pub which : (c : CellId) → Contains found c ↔ (Shares p cell n c × (c ≢ cell))
+  pub which : (c : CellId) → Contains found c ↔ (SharesNode p cell n c × (c ≢ cell))
   pub rising : AllPairs (λ c d. c.0 < d.0) found
 
 -- the cells of numbers below this one among them
 pub record AreBehindBelow (p : InstanceParts) (cell : CellId) (n : NodeId) (below : ℕ) (found : List CellId) : Type 0 where
-  pub which : (c : CellId) → Contains found c ↔ ((c.0 < below) × Shares p cell n c × (c ≢ cell))
+  pub which : (c : CellId) → Contains found c ↔ ((c.0 < below) × SharesNode p cell n c × (c ≢ cell))
   pub rising : AllPairs (λ c d. c.0 < d.0) found
 
 -- two rows for each cell below this number: what is behind its low node, and what is behind its high node

@@ -7,3 +7,4 @@ pub mod Crowds
 pub mod Fans
 pub mod Views
 pub mod Searched
+pub mod Spans

@@ -17,8 +17,8 @@ grown_from walks [] = walks
 grown_from walks (b ∷ branches) = grown_from (walks ++ lengthened walks b ∷ []) branches
 
 -- the walks of the branches, where the first walk has no step
-unfoldable pub walks_in : List Branch → List (List Step)
-walks_in branches = grown_from ([] ∷ []) branches
+unfoldable pub walks_of_tree : List Branch → List (List Step)
+walks_of_tree branches = grown_from ([] ∷ []) branches
 
 -- each branch lengthens a walk before it
 pub record AreBranches (branches : List Branch) : Type 0 where

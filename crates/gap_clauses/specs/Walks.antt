@@ -19,7 +19,7 @@ abbrev pub step_cells : List Step → List CellId
 step_cells steps = map (λ s. s.cell) steps
 
 -- both cells are of one section and have the node at an end
-pub record Shares (p : InstanceParts) (e : CellId) (n : NodeId) (f : CellId) : Type 0 where
+pub record SharesNode (p : InstanceParts) (e : CellId) (n : NodeId) (f : CellId) : Type 0 where
   pub one : CellSpec
   pub other : CellSpec
   pub is_one : slice_get p.cells e.0 ≡ Some one
@@ -31,7 +31,7 @@ pub record Shares (p : InstanceParts) (e : CellId) (n : NodeId) (f : CellId) : T
 -- the steps lead from e to f, each over a node that the cells before it and behind it share
 abbrev pub Leads : InstanceParts → CellId → List Step → CellId → Type 0
 Leads p e [] f = e ≡ f
-Leads p e (s ∷ steps) f = Shares p e s.node s.cell × Leads p s.cell steps f
+Leads p e (s ∷ steps) f = SharesNode p e s.node s.cell × Leads p s.cell steps f
 
 -- the cell to which steps from e lead
 abbrev pub end_of : CellId → List Step → CellId

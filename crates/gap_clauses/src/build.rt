@@ -1,5 +1,5 @@
 //! How the gaps of an instance are made: by a search from each cell.
-ghost use Rattle.std.specs.Prelude.{◌<◌, ◌+◌, ◌↔◌, ℕ, IfErr, IfOk, IsTrue, None, OnOk, length};
+ghost use Rattle.std.specs.Prelude.{◌+◌, ◌↔◌, ℕ, IfErr, IfOk, IsTrue, None, OnOk, length};
 ghost use Rattle.cell_net.specs.Rules.{IsInstance};
 ghost use Rattle.cell_net.specs.Space.{IsCell};
 ghost use Rattle.gap_clauses.specs.Crowds.{IsCrowded, IsGapRefusal};
@@ -7,6 +7,7 @@ ghost use Rattle.gap_clauses.specs.Fans.{AreRows};
 ghost use Rattle.gap_clauses.specs.Gaps.{AreGaps};
 ghost use Rattle.gap_clauses.specs.Searched.{AreSearchedBelow, IsNoHigher};
 
+use crate::candidates::CandidateNodes;
 use crate::fan::{Fan, Stop};
 use crate::gaps::Gaps;
 use crate::neighbours::neighbours_of;
@@ -16,8 +17,9 @@ use cell_net::{CellId, Instance, SectionId};
 use std::alloc::{AllocError, Global};
 
 impl Gaps {
-    /// The gaps of the instance, unless a pair of cells has more than 64 walks. Linear in the walks, times
-    /// their steps, but for the cells' pairs.
+    /// The gaps of the instance, unless a pair of cells has more than 64 walks. Linear in the walks, and
+    /// in the steps of those that come to a node where three cells of a section meet, but for the cells'
+    /// pairs.
     pub fn build(alloc: Global, inst: &Instance) -> Result<Gaps, GapRefusal>
         ensures gaps { IfOk result (AreGaps inst.now) }
         ensures few { IfOk result (λ _. (section : ℕ) → ¬ IsCrowded inst.now section) }
@@ -61,7 +63,7 @@ fn kept(alloc: Global, inst: &Instance, fans: Vec<Fan>) -> Result<Gaps, GapRefus
     ensures few { IfOk result (λ _. (section : ℕ) → ¬ IsCrowded inst.now section) }
     ensures refusal { IfErr result (IsGapRefusal inst.now) }
 {
-    match Vec::from_slice(alloc, inst.parts().candidates.as_slice()) {
+    match CandidateNodes::build(alloc, inst.parts().candidates.as_slice()) {
         Ok(candidates) => Ok(Gaps { candidates, fans }),
         Err(_) => Err(GapRefusal::Memory),
     }

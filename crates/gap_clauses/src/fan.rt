@@ -1,10 +1,13 @@
 //! The walks from one cell, with the list of those to each cell.
-ghost use Rattle.std.specs.Prelude.{◌≡◌, ◌<◌, ◌≤◌, ◌++◌, ◌∷◌, [], ℕ, false, All, List, IfErr, IfOk, OnErr, OnOk, length, slice_index_or, slice_set};
-ghost use Rattle.gap_clauses.specs.Fans.{FanParts, IsStop, has_node, visits, walk_at, walks_to};
+ghost use Rattle.std.specs.Prelude.{◌≡◌, ◌<◌, ◌≤◌, ◌++◌, ◌∷◌, [], ℕ, false, All, List, IfErr, IfOk, OnErr, OnOk, length, nat_eq, slice_index_or, slice_set};
+ghost use Rattle.gap_clauses.specs.Fans.{FanParts, IsStop, ends_over, has_node, walk_at, walks_to};
 ghost use Rattle.cell_net.specs.declared.ids.CellId.{CellId};
 ghost use Rattle.gap_clauses.specs.Searched.{AreCandidateNodes, AreMarks};
+ghost use Rattle.gap_clauses.specs.Spans.{IsSpanOf};
 ghost use Rattle.gap_clauses.specs.Walks.{end_of};
 
+use crate::candidates::CandidateNodes;
+use crate::marks::Span;
 use crate::tree::WalkTree;
 use cell_net::{CellId, NodeId};
 use std::alloc::{AllocError, Global};
@@ -80,13 +83,19 @@ impl Fan {
         self.tree.has_node(place, node)
     }
 
-    /// Whether the walk has the cell; linear in its steps.
-    #[tactic(auto, unfolding(crate::specs::Fans::visits))]
-    pub(crate) fn visits(&self, place: usize, cell: CellId) -> bool
+    /// Whether the last step of the walk goes over the node.
+    pub(crate) fn ends_over(&self, place: usize, node: NodeId) -> bool
         requires { place < length self.now.walks }
-        ensures { result ≡ visits self.now.first cell (walk_at self.now.walks place) }
+        ensures { result ≡ ends_over node (walk_at self.now.walks place) }
     {
-        self.first.0 == cell.0 || self.tree.has_cell(place, cell)
+        self.tree.ends_over(place, node)
+    }
+
+    /// Whether the walks begin with the cell.
+    pub(crate) fn begins_with(&self, cell: CellId) -> bool
+        ensures { result ≡ nat_eq self.now.first.0 cell.0 }
+    {
+        self.first.0 == cell.0
     }
 
     /// Appends the walk at that place with one step more, unless its last cell has 64 walks. After any
@@ -140,18 +149,25 @@ impl Fan {
         }
     }
 
-    /// Marks each of the candidates, of these nodes, that is at a node of that walk to the cell; linear in
-    /// its steps, up to a search.
-    pub(crate) fn mark(&self, f: CellId, walk: u32, candidates: &[NodeId], marks: &mut [bool])
+    /// Marks each of the candidates that is at a node of that walk to the cell, and tells from which one
+    /// to which one marks stand; linear in its steps, where nodes are looked up.
+    pub(crate) fn mark(
+        &self,
+        f: CellId,
+        walk: u32,
+        candidates: &CandidateNodes,
+        marks: &mut [bool],
+    ) -> Span
         requires cell { f.0 < self.now.cells }
         requires walk { walk < length (walks_to self.now.first self.now.walks f) }
         requires nodes { AreCandidateNodes candidates.now }
         requires few { length candidates.now ≤ length marks.old }
         requires none { All (λ m. m ≡ false) marks.old }
-        ensures { AreMarks candidates.now (walk_at (walks_to self.now.first self.now.walks f) walk) marks.new }
+        ensures marks { AreMarks candidates.now (walk_at (walks_to self.now.first self.now.walks f) walk) marks.new }
+        ensures span { IsSpanOf (length candidates.now) marks.new result }
     {
         let place = self.lists[f.0 as usize].as_slice()[walk as usize];
-        self.tree.mark(place as usize, candidates, marks);
+        self.tree.mark(place as usize, candidates, marks)
     }
 
     /// No cell has more than 64 walks. A call does nothing; it gives its caller's proof this fact.

@@ -1,12 +1,11 @@
 //! The gaps of an instance: for each two cells of a section the candidates on each walk between them.
-ghost use Rattle.std.specs.Prelude.{◌≡◌, ◌<◌, ◌≤◌, ◌++◌, [], OnErr, OnOk, length, map, slice_index_or, take};
-ghost use Rattle.std.specs.List.{filter, range_with_len};
+ghost use Rattle.std.specs.Prelude.{◌≡◌, ◌<◌, ◌++◌, [], OnErr, OnOk, length, slice_index_or};
 ghost use Rattle.gap_clauses.specs.Gaps.{walks_of};
-ghost use Rattle.gap_clauses.specs.Searched.{is_marked};
-ghost use Rattle.gap_clauses.specs.Views.{candidate_of};
 
+use crate::candidates::CandidateNodes;
 use crate::fan::Fan;
-use cell_net::{CandidateId, CellId, NodeId};
+use crate::marks::{count_marked, push_marked};
+use cell_net::{CandidateId, CellId};
 use std::alloc::AllocError;
 use std::marker::Model;
 
@@ -18,21 +17,18 @@ const CANDIDATES: usize = 512;
 /// Sixteen bytes a walk, and 24 for each two cells.
 #[derive(Debug, Drop)]
 pub struct Gaps {
-    pub(crate) candidates: Vec<NodeId>,
+    pub(crate) candidates: CandidateNodes,
     pub(crate) fans: Vec<Fan>,
 }
 
 impl Model for Gaps {
     ghost use Rattle.std.specs.Prelude.{List, map};
     ghost use Rattle.cell_net.specs.declared.ids.CandidateId.{CandidateId};
-    ghost use Rattle.gap_clauses.specs.Searched.{AreCandidateNodes};
     ghost use Rattle.gap_clauses.specs.Views.{candidates_from};
 
     ghost Value = { List (List (List (List CandidateId))) };
 
-    ghost view = { λ g. map (candidates_from g.candidates.items) g.fans.items };
-
-    ghost invariant = { λ g. AreCandidateNodes g.candidates.items };
+    ghost view = { λ g. map (candidates_from g.candidates) g.fans.items };
 }
 
 impl Gaps {
@@ -46,8 +42,20 @@ impl Gaps {
         }
     }
 
-    /// Appends the candidates at the nodes of that walk, rising; linear in its steps, up to a search, and
-    /// in the candidates. After want of memory the list is as it was.
+    /// How many candidates are at the nodes of that walk; linear in its steps and in the candidates between
+    /// the first one and the last. Takes no memory.
+    pub fn candidate_count(&self, e: CellId, f: CellId, walk: u32) -> u32
+        requires { walk < length (walks_of self.now e f) }
+        ensures { result ≡ length (slice_index_or (walks_of self.now e f) walk []) }
+    {
+        let count = self.candidates.len();
+        let mut marks = [false; CANDIDATES];
+        let span = self.fans[e.0 as usize].mark(f, walk, &self.candidates, &mut marks);
+        count_marked(&marks, count, span)
+    }
+
+    /// Appends the candidates at the nodes of that walk, rising; linear in its steps and in the candidates
+    /// between the first one and the last. After want of memory the list is as it was.
     pub fn put_walk(
         &self,
         e: CellId,
@@ -59,10 +67,11 @@ impl Gaps {
         ensures ok { OnOk result (into.new.items ≡ into.old.items ++ slice_index_or (walks_of self.now e f) walk []) }
         ensures err { OnErr result (into.new.items ≡ into.old.items) }
     {
+        let count = self.candidates.len();
         let mut marks = [false; CANDIDATES];
-        self.fans[e.0 as usize].mark(f, walk, &self.candidates, &mut marks);
+        let span = self.fans[e.0 as usize].mark(f, walk, &self.candidates, &mut marks);
         let before = into.len();
-        match push_marked(&marks, self.candidates.len(), into) {
+        match push_marked(&marks, count, span, into) {
             Ok(()) => Ok(()),
             Err(fault) => {
                 into.truncate(before);
@@ -70,19 +79,4 @@ impl Gaps {
             }
         }
     }
-}
-
-/// Appends the candidates below this number that are marked.
-fn push_marked(marks: &[bool], count: usize, into: &mut Vec<CandidateId>) -> Result<(), AllocError>
-    requires within { count ≤ length marks.now }
-    requires few { count ≤ 512 }
-    ensures ok { OnOk result (into.new.items ≡ into.old.items ++ filter (is_marked marks.now) (map candidate_of (range_with_len 0 count))) }
-    ensures err { OnErr result (take (length into.old.items) into.new.items ≡ into.old.items) }
-{
-    for number in 0..count {
-        if marks[number] {
-            into.push(CandidateId(number as u32))?;
-        }
-    }
-    Ok(())
 }

@@ -3,6 +3,7 @@
 #![tactic(auto)]
 
 mod build;
+mod candidates;
 mod fan;
 mod gaps;
 mod laws;

@@ -1,8 +1,8 @@
 //! For each cell, the other cells of its section at each of its nodes.
-ghost use Rattle.std.specs.Prelude.{◌≡◌, ◌<◌, ◌+◌, ◌↔◌, IfOk, IsTrue, OnOk};
+ghost use Rattle.std.specs.Prelude.{◌≡◌, ◌+◌, ◌↔◌, IfOk, IsTrue, OnOk};
 ghost use Rattle.cell_net.specs.Borders.{IsAtEnd};
 ghost use Rattle.cell_net.specs.Space.{IsCell};
-ghost use Rattle.gap_clauses.specs.Walks.{Shares};
+ghost use Rattle.gap_clauses.specs.Walks.{SharesNode};
 ghost use Rattle.gap_clauses.specs.Fans.{AreBehind, AreBehindBelow, AreRows, AreRowsBelow};
 
 use cell_net::{CellId, CellSpec, Instance, NodeId};
@@ -83,7 +83,7 @@ fn push_if_behind(
 fn shares(inst: &Instance, cell: CellId, node: NodeId, other: CellId) -> bool
     requires cell { IsCell inst.now cell }
     requires other { IsCell inst.now other }
-    ensures { IsTrue result ↔ Shares inst.now cell node other }
+    ensures { IsTrue result ↔ SharesNode inst.now cell node other }
 {
     share(inst.cell(cell), node, inst.cell(other))
 }

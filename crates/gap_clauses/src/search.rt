@@ -1,12 +1,12 @@
 //! The search for all walks from one cell, in their order: first the walks over the same nodes, which
 //! stand side by side, then those that go on over one more node, from the lowest such node on.
-ghost use Rattle.std.specs.Prelude.{◌≡◌, ◌<◌, ◌≤◌, ◌++◌, All, IfErr, IfOk, OnOk, Option, length, slice_range, take};
+ghost use Rattle.std.specs.Prelude.{◌≡◌, ◌<◌, ◌≤◌, ◌++◌, true, false, All, IfErr, IfOk, OnOk, length, slice_range, take};
 ghost use Rattle.std.specs.List.{flat_map};
 ghost use Rattle.cell_net.specs.Rules.{IsInstance};
 ghost use Rattle.cell_net.specs.Space.{IsCell};
 ghost use Rattle.cell_net.specs.declared.ids.NodeId.{NodeId};
-ghost use Rattle.gap_clauses.specs.Fans.{AreListed, AreRows, GoesOverNext, IsDone, IsFanOf, IsNotBelow, IsSearchState, IsSearchStop, IsSkipped, IsStop, LeadToCells, all_over, behind, longer, nodes_at, over, walk_at};
-ghost use Rattle.gap_clauses.specs.Walks.{end_of};
+ghost use Rattle.gap_clauses.specs.Fans.{AreListed, AreRows, GoesOverNext, IsDone, IsFanOf, IsNewIn, IsNotBelow, IsSearchState, IsSearchStop, IsSkipped, IsStop, LeadToCells, all_over, behind, ends_over, has_node, longer, nodes_at, over, walk_at};
+ghost use Rattle.gap_clauses.specs.Walks.{IsWalkFrom, end_of};
 
 use crate::fan::{Fan, Stop};
 use cell_net::{CellId, Instance, NodeId};
@@ -21,7 +21,7 @@ pub(crate) struct Search<'a> {
 }
 
 /// All walks from the cell, in order, unless some cell has more than 64 of them. Linear in the walks,
-/// times their steps.
+/// and in the steps of those that come to a node where three cells of the section meet.
 pub(crate) fn fan_of(alloc: Global, search: &Search, cell: CellId) -> Result<Fan, Stop>
     requires rules { IsInstance search.now.inst.now }
     requires rows { AreRows search.now.inst.now search.now.neighbours.now }
@@ -118,8 +118,9 @@ fn lengthen_all(
 ) -> Result<(), Stop>
     requires rows { AreRows search.now.inst.now search.now.neighbours.now }
     requires cells { fan.old.cells ≡ length search.now.inst.now.cells }
+    requires first { IsCell search.now.inst.now fan.old.first }
     requires within { end ≤ length fan.old.walks }
-    requires last { LeadToCells search.now.inst.now fan.old.first fan.old.walks }
+    requires walks { All (IsWalkFrom search.now.inst.now fan.old.first) fan.old.walks }
     ensures first { fan.new.first ≡ fan.old.first }
     ensures cells { fan.new.cells ≡ fan.old.cells }
     ensures ok { OnOk result (fan.new.walks ≡ fan.old.walks ++ all_over search.now.inst.now search.now.neighbours.now fan.old.first node (slice_range fan.old.walks from end)) }
@@ -138,18 +139,47 @@ fn lengthen_all(
 fn lengthen_over(search: &Search, node: NodeId, place: usize, fan: &mut Fan) -> Result<(), Stop>
     requires rows { AreRows search.now.inst.now search.now.neighbours.now }
     requires cells { fan.old.cells ≡ length search.now.inst.now.cells }
+    requires first { IsCell search.now.inst.now fan.old.first }
     requires within { place < length fan.old.walks }
-    requires last { IsCell search.now.inst.now (end_of fan.old.first (walk_at fan.old.walks place)) }
+    requires walk { IsWalkFrom search.now.inst.now fan.old.first (walk_at fan.old.walks place) }
     ensures first { fan.new.first ≡ fan.old.first }
     ensures cells { fan.new.cells ≡ fan.old.cells }
     ensures ok { OnOk result (fan.new.walks ≡ fan.old.walks ++ over search.now.inst.now search.now.neighbours.now fan.old.first node (walk_at fan.old.walks place)) }
     ensures err { IfErr result (IsStop fan.old.first (fan.old.walks ++ over search.now.inst.now search.now.neighbours.now fan.old.first node (walk_at fan.old.walks place))) }
 {
-    if fan.has_node(place, node) {
+    let cells = behind_last(search, fan, node, place);
+    if cells.is_empty() {
         return Ok(());
     }
-    let cells = behind(search, fan.last_cell(place), node);
+    if goes_over(fan, node, place, cells.len() == 1) {
+        return Ok(());
+    }
     lengthen_into(node, place, cells, fan)
+}
+
+/// The other cells of the section at the node, rising, where the last cell of the walk at that place is
+/// at it, and else none.
+fn behind_last<'a>(search: &Search<'a>, fan: &Fan, node: NodeId, place: usize) -> &'a [CellId]
+    requires rows { AreRows search.now.inst.now search.now.neighbours.now }
+    requires within { place < length fan.now.walks }
+    requires last { IsCell search.now.inst.now (end_of fan.now.first (walk_at fan.now.walks place)) }
+    ensures { result.now ≡ behind search.now.inst.now search.now.neighbours.now (end_of fan.now.first (walk_at fan.now.walks place)) node }
+{
+    behind(search, fan.last_cell(place), node)
+}
+
+/// Whether the walk at that place goes over the node; in constant time where only its last step can,
+/// else linear in its steps.
+fn goes_over(fan: &Fan, node: NodeId, place: usize, at_last: bool) -> bool
+    requires within { place < length fan.now.walks }
+    requires at_last { at_last ≡ true → ends_over node (walk_at fan.now.walks place) ≡ false → has_node node (walk_at fan.now.walks place) ≡ false }
+    ensures { result ≡ has_node node (walk_at fan.now.walks place) }
+{
+    if at_last {
+        fan.ends_over(place, node)
+    } else {
+        fan.has_node(place, node)
+    }
 }
 
 /// The other cells of the cell's section at the node, rising.
@@ -170,10 +200,11 @@ fn behind<'a>(search: &Search<'a>, cell: CellId, node: NodeId) -> &'a [CellId]
 }
 
 /// Appends the walk at that place one step longer over the node, into each of the cells that it doesn't
-/// have.
+/// have. It has none but the first one.
 fn lengthen_into(node: NodeId, place: usize, cells: &[CellId], fan: &mut Fan) -> Result<(), Stop>
     requires within { place < length fan.old.walks }
     requires cells { All (λ c. c.0 < fan.old.cells) cells.now }
+    requires new { All (IsNewIn (walk_at fan.old.walks place)) cells.now }
     ensures first { fan.new.first ≡ fan.old.first }
     ensures cells { fan.new.cells ≡ fan.old.cells }
     ensures ok { OnOk result (fan.new.walks ≡ fan.old.walks ++ flat_map (longer fan.old.first node (walk_at fan.old.walks place)) cells.now) }
@@ -188,16 +219,17 @@ fn lengthen_into(node: NodeId, place: usize, cells: &[CellId], fan: &mut Fan) ->
     Ok(())
 }
 
-/// Appends the walk at that place one step longer, if it doesn't have the cell.
+/// Appends the walk at that place one step longer into the cell, unless the walk begins with it.
 fn lengthen_by(node: NodeId, place: usize, cell: CellId, fan: &mut Fan) -> Result<(), Stop>
     requires within { place < length fan.old.walks }
     requires cell { cell.0 < fan.old.cells }
+    requires new { IsNewIn (walk_at fan.old.walks place) cell }
     ensures first { fan.new.first ≡ fan.old.first }
     ensures cells { fan.new.cells ≡ fan.old.cells }
     ensures ok { OnOk result (fan.new.walks ≡ fan.old.walks ++ longer fan.old.first node (walk_at fan.old.walks place) cell) }
     ensures err { IfErr result (IsStop fan.old.first (fan.old.walks ++ longer fan.old.first node (walk_at fan.old.walks place) cell)) }
 {
-    if fan.visits(place, cell) {
+    if fan.begins_with(cell) {
         return Ok(());
     }
     fan.push(place, node, cell)

@@ -1,10 +1,12 @@
 //! Walks from one cell, each kept as one step behind the walk that it lengthens.
 ghost use Rattle.std.specs.Prelude.{◌≡◌, ◌<◌, ◌≤◌, ◌++◌, ◌∷◌, [], All, OnErr, OnOk, false, length, slice_index_or};
-ghost use Rattle.gap_clauses.specs.Fans.{has_cell, has_node, walk_at};
+ghost use Rattle.gap_clauses.specs.Fans.{ends_over, has_node, walk_at};
 ghost use Rattle.gap_clauses.specs.Searched.{AreCandidateNodes, AreMarks};
+ghost use Rattle.gap_clauses.specs.Spans.{IsSpanOf};
 ghost use Rattle.gap_clauses.specs.Walks.{Step, end_of};
 
-use crate::marks::mark_at;
+use crate::candidates::CandidateNodes;
+use crate::marks::{Span, mark_at};
 use cell_net::{CellId, NodeId};
 use std::alloc::{AllocError, Global};
 use std::marker::Model;
@@ -26,14 +28,14 @@ pub(crate) struct WalkTree {
 
 impl Model for WalkTree {
     ghost use Rattle.std.specs.Prelude.{List};
-    ghost use Rattle.gap_clauses.specs.Fans.{has_cell, has_node, walk_at};
+    ghost use Rattle.gap_clauses.specs.Fans.{ends_over, has_node, walk_at};
     ghost use Rattle.gap_clauses.specs.Searched.{AreCandidateNodes, AreMarks};
     ghost use Rattle.gap_clauses.specs.Walks.{Step, end_of};
-    ghost use Rattle.gap_clauses.specs.Trees.{walks_in, AreBranches};
+    ghost use Rattle.gap_clauses.specs.Trees.{walks_of_tree, AreBranches};
 
     ghost Value = { List (List Step) };
 
-    ghost view = { λ t. walks_in t.branches.items };
+    ghost view = { λ t. walks_of_tree t.branches.items };
 
     ghost invariant = { λ t. AreBranches t.branches.items };
 }
@@ -99,36 +101,38 @@ impl WalkTree {
         false
     }
 
-    /// Whether a step of the walk at that place leads into the cell; linear in its steps.
-    pub(crate) fn has_cell(&self, place: usize, cell: CellId) -> bool
+    /// Whether the last step of the walk at that place goes over the node.
+    pub(crate) fn ends_over(&self, place: usize, node: NodeId) -> bool
         requires { place < length self.now }
-        ensures { result ≡ has_cell cell (walk_at self.now place) }
+        ensures { result ≡ ends_over node (walk_at self.now place) }
     {
-        let mut at = place;
-        while at > 0 {
-            let branch = self.branches[at - 1];
-            if branch.cell.0 == cell.0 {
-                return true;
-            }
-            at = branch.before as usize;
+        if place == 0 {
+            false
+        } else {
+            self.branches[place - 1].node.0 == node.0
         }
-        false
     }
 
-    /// Marks each of the candidates, of these nodes, that is at a node of the walk at that place; linear
-    /// in its steps, up to a search.
-    pub(crate) fn mark(&self, place: usize, candidates: &[NodeId], marks: &mut [bool])
+    /// Marks each of the candidates that is at a node of the walk at that place, and tells from which one
+    /// to which one marks stand; linear in its steps, where nodes are looked up.
+    pub(crate) fn mark(&self, place: usize, candidates: &CandidateNodes, marks: &mut [bool]) -> Span
         requires within { place < length self.now }
         requires nodes { AreCandidateNodes candidates.now }
         requires few { length candidates.now ≤ length marks.old }
         requires none { All (λ m. m ≡ false) marks.old }
-        ensures { AreMarks candidates.now (walk_at self.now place) marks.new }
+        ensures marks { AreMarks candidates.now (walk_at self.now place) marks.new }
+        ensures span { IsSpanOf (length candidates.now) marks.new result }
     {
+        let mut span = Span {
+            low: candidates.len(),
+            end: 0,
+        };
         let mut at = place;
         while at > 0 {
             let branch = self.branches[at - 1];
-            mark_at(branch.node, candidates, marks);
+            mark_at(branch.node, candidates, marks, &mut span);
             at = branch.before as usize;
         }
+        span
     }
 }

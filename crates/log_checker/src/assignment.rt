@@ -1,6 +1,6 @@
 //! The literals that are known while a step is read.
 
-ghost use Rattle.std.specs.Prelude.{◌≡◌, ◌+◌, ◌-◌, ◌*◌, ◌<◌, ◌≤◌, Bool, false, IfOk, OnOk, OnErr, [], ◌∷◌, ◌++◌, ◌||◌, cond, length, All, slice_index_or};
+ghost use Rattle.std.specs.Prelude.{◌≡◌, ◌*◌, false, IfOk, [], ◌∷◌, ◌++◌, ◌||◌, slice_index_or};
 ghost use Rattle.sat_core.specs.declared.literal.Lit.{Lit};
 ghost use Rattle.sat_core.specs.Clauses.{negated, IsOver};
 ghost use Rattle.sat_core.specs.Hints.{is_known as is_known_of};

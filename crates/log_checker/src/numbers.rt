@@ -1,6 +1,6 @@
 //! The places of clauses by their numbers.
 
-ghost use Rattle.std.specs.Prelude.{◌≡◌, ◌≢◌, ℕ, ◌+◌, ◌<◌, ◌≤◌, length, IfSome, IfNone, AllPairs, slice_index_or};
+ghost use Rattle.std.specs.Prelude.{◌≡◌, ◌≢◌, ℕ, ◌+◌, ◌<◌, length, IfSome, IfNone, AllPairs, slice_index_or};
 ghost use Rattle.sat_core.specs.declared.literal.ClauseId.{ClauseId};
 ghost use Rattle.log_checker.specs.Stored.{number_at, AscendsTo};
 

@@ -1,6 +1,6 @@
 //! The verdict on a whole log.
 
-ghost use Rattle.std.specs.Prelude.{◌≡◌, ◌≢◌, ◌^◌, ◌<◌, ◌↔◌, length, slice_get, Option, IfOk, IsTrue};
+ghost use Rattle.std.specs.Prelude.{◌≡◌, ◌≢◌, ◌^◌, ◌<◌, ◌↔◌, length, IfOk, IsTrue};
 ghost use Rattle.sat_core.specs.Clauses.{IsUnsatisfiable};
 ghost use Rattle.sat_core.specs.Derivation.{EndsInEmptyClause, Refutes};
 ghost use Rattle.derivation_log.specs.Steps.{derived_steps};

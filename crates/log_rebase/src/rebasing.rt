@@ -1,10 +1,10 @@
 //! The log of the formula with the last unit.
-ghost use Rattle.std.specs.Prelude.{◌<◌, ◌^◌, ◌≡◌, ◌++◌, ◌+◌, ◌∷◌, [], ℕ, List, length, take, map, IfOk, OnOk};
+ghost use Rattle.std.specs.Prelude.{◌<◌, ◌^◌, ◌≡◌, ◌++◌, ◌+◌, ◌∷◌, [], ℕ, List, length, IfOk, OnOk};
 ghost use Rattle.sat_core.specs.declared.literal.Lit.{Lit};
 ghost use Rattle.sat_core.specs.Search.{Event, log_of, RefutesWithUnits};
 ghost use Rattle.sat_core.specs.Derivation.{adds, Refutes, numbered_from};
 ghost use Rattle.derivation_log.specs.Steps.{derived, derived_steps};
-ghost use Rattle.log_rebase.specs.Rebasing.{RiseFrom, rebased, derive_marks, with_numbers, renumbered, AreMarksOf, AreDerived, with_last};
+ghost use Rattle.log_rebase.specs.Rebasing.{RiseFrom, rebased, derive_marks, AreMarksOf, AreDerived, with_last};
 
 use crate::mark::UnitMark;
 use crate::renumbering::renumber_step;

@@ -1,7 +1,7 @@
 //! Steps under new numbers.
-ghost use Rattle.std.specs.Prelude.{◌<◌, ◌^◌, ◌+◌, ◌≡◌, ◌++◌, List, map, take, IfOk, OnOk, length};
+ghost use Rattle.std.specs.Prelude.{◌<◌, ◌^◌, ◌+◌, ◌≡◌, map, IfOk, length};
 ghost use Rattle.sat_core.specs.declared.literal.ClauseId.{ClauseId};
-ghost use Rattle.derivation_log.specs.Steps.{derived, derived_steps};
+ghost use Rattle.derivation_log.specs.Steps.{derived};
 ghost use Rattle.log_rebase.specs.Rebasing.{RiseFrom, renumbered, with_numbers, new_id};
 
 use crate::mark::UnitMark;

@@ -29,8 +29,8 @@ kind_of i word d =
     else Err (at_item NodesKind i)
 
 -- a node
-unfoldable pub node_at : ℕ → Json → Reading NodePart Member
-node_at i d = do
+unfoldable pub node_part : ℕ → Json → Reading NodePart Member
+node_part i d = do
   is_object ← object (at_item Nodes i) d
   name ← text (at_item NodesName i) (codes "name") d
   word ← text (at_item NodesKind i) (codes "kind") d
@@ -75,7 +75,7 @@ border_at i d = do
 unfoldable pub document : Json → Reading NetParts Member
 document d = do
   is_object ← object (at_item Document 0) d
-  nodes ← list (at_item Nodes 0) node_at (codes "nodes") d
+  nodes ← list (at_item Nodes 0) node_part (codes "nodes") d
   tracks ← list (at_item Tracks 0) track_at (codes "tracks") d
   sections ← list (at_item Sections 0) section_at (codes "sections") d
   borders ← optional_list (at_item Borders 0) border_at (codes "borders") d

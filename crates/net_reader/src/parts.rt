@@ -3,7 +3,7 @@
 ghost use Rattle.std.specs.Prelude.{◌≡◌, ⊤, IfOk};
 ghost use Rattle.vss_json.specs.Values.{json_of};
 ghost use Rattle.vss_json.specs.Readings.{Gives};
-ghost use Rattle.net_reader.specs.Document.{ListsSome, at_item as fault_at, border_at, group_at, kind_of as kind_reading, node_at, section_at, station_at, track_at};
+ghost use Rattle.net_reader.specs.Document.{ListsSome, at_item as fault_at, border_at, group_at, kind_of as kind_reading, node_part, section_at, station_at, track_at};
 
 use crate::member::Member;
 use rail_net::{BorderPart, GroupPart, NodeKind, NodePart, TrackPart};
@@ -28,7 +28,7 @@ pub(crate) fn at(member: Member, item: u32) -> ShapeFault<Member>
 pub(crate) struct Nodes;
 
 impl Reader<NodePart, Member> for Nodes {
-    ghost reading = { λ r. node_at };
+    ghost reading = { λ r. node_part };
 
     ghost keeps = { λ r node. ⊤ };
 
@@ -37,9 +37,9 @@ impl Reader<NodePart, Member> for Nodes {
     }
 }
 
-#[tactic(auto, unfolding(crate::specs::Document::node_at))]
+#[tactic(auto, unfolding(crate::specs::Document::node_part))]
 fn node(alloc: Global, value: &Json, item: u32) -> Walk<NodePart>
-    ensures { Gives (node_at item (json_of value.now)) result }
+    ensures { Gives (node_part item (json_of value.now)) result }
 {
     object(value, at(Member::Nodes, item))?;
     let name = text(alloc, value, "name", at(Member::NodesName, item))?;

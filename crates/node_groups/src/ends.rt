@@ -1,5 +1,5 @@
 //! The ends of segments, in an order that brings those at one node together.
-ghost use Rattle.std.specs.Prelude.{◌≡◌, ◌<◌, ◌≤◌, ◌^◌, ◌↔◌, length, IsTrue, IfOk, IsPermutation, Contains};
+ghost use Rattle.std.specs.Prelude.{◌≡◌, ◌<◌, ◌≤◌, ◌^◌, ◌↔◌, length, IsTrue, IfOk, IsPermutation};
 ghost use Rattle.std.specs.List.Sorted.{IsNonDecreasing, IsNonDecreasingBy, IsPartitionPoint};
 ghost use Rattle.node_groups.specs.Ends.{AreEndsOf, IsStretchAt, ends_from, MeetAt, IsInOrder};
 

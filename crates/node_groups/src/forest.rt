@@ -1,5 +1,5 @@
 //! A forest over the items 0, 1, .. : each item has a parent that is no higher than itself, and a root is its own parent.
-ghost use Rattle.std.specs.Prelude.{◌≡◌, ◌<◌, ◌≤◌, ◌^◌, length, slice_index, slice_set, IfOk};
+ghost use Rattle.std.specs.Prelude.{◌≡◌, ◌<◌, ◌≤◌, length, slice_index, slice_set, IfOk};
 ghost use Rattle.node_groups.specs.Forest.{IsForest, IsRoot, Joined, JoinsAlike, KeepsRoots, AddsPair, AreRoots, AreAllRoots};
 
 use std::alloc::{AllocError, Global};

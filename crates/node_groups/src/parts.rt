@@ -1,5 +1,5 @@
 //! The first part whose segments are not connected.
-ghost use Rattle.std.specs.Prelude.{◌≡◌, ◌<◌, ◌^◌, length, All, IfOk, IsPermutation};
+ghost use Rattle.std.specs.Prelude.{◌<◌, ◌^◌, length, All, IfOk, IsPermutation};
 ghost use Rattle.std.specs.List.Sorted.{IsNonDecreasingBy};
 ghost use Rattle.node_groups.specs.Ends.{AreEndsOf, IsInOrder};
 ghost use Rattle.node_groups.specs.Parts.{Finds, HasOneGroup, IsConnectedPart};

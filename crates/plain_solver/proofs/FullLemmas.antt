@@ -1,19 +1,16 @@
 -- A full trail on which nothing follows from any clause: its valuation satisfies them.
-use Rattle.std.proofs.Common.{◌≡◌, ◌≢◌, ℕ, zero, suc, ◌+◌, ◌-◌, ◌<◌, ◌≤◌, Bool, true, false, ◌⊎◌, inl, inr, List, [], ◌∷◌, ◌++◌, length, get_or, set, refl, ap, sym, subst, ◌∙◌, arith}
-use Rattle.std.specs.Prelude.{All, Any, Contains, Option, Some, None, slice_get, nat_eq}
-use Rattle.std.proofs.lemmas.Bool.{cases_eq, eqb-true}
-use Rattle.std.proofs.lemmas.List.{get_or-set_same, get_or-set_other}
-use Rattle.std.proofs.lemmas.List.Elements.{All-nil, All-head, All-tail, All-cons, All-contains}
-use Rattle.std.proofs.lemmas.Option.{slice_get-get_or}
+use Rattle.std.proofs.Common.{◌≡◌, ◌≢◌, ℕ, zero, suc, ◌+◌, ◌<◌, Bool, true, false, List, [], ◌∷◌, ◌++◌, length, get_or, refl, sym, subst, ◌∙◌, arith}
+use Rattle.std.specs.Prelude.{All, None, nat_eq}
+use Rattle.std.proofs.lemmas.Bool.{eqb-true}
+use Rattle.std.proofs.lemmas.List.Elements.{All-nil, All-head, All-tail, All-cons}
 use Rattle.sat_core.specs.declared.literal.Lit.{Lit}
 use Rattle.sat_core.specs.declared.valuation.Valuation.{Valuation}
-use Rattle.sat_core.specs.Clauses.{negated, IsOver, IsClause, IsTrueIn, Satisfies, SatisfiesAll}
+use Rattle.sat_core.specs.Clauses.{IsOver, IsTrueIn, Satisfies, SatisfiesAll}
 use Rattle.sat_core.specs.Derivation.{adds, drops}
-use Rattle.sat_core.specs.Hints.{is_known}
 use Rattle.sat_core.specs.Fresh.{IsOpen, IsAtRest}
 use Rattle.sat_core.specs.Search.{Event, gives, derives, units_of}
 use Rattle.search_trail.specs.Trails.{TrailParts, IsTrail, known_of, decided}
-use Rattle.sat_core.proofs.OpenLaws.{one_variable, true_is_not_false}
+use Rattle.sat_core.proofs.OpenLaws.{true_is_not_false}
 use Rattle.search_trail.proofs.TrailLaws.{one_sign, IsTrail-push, now_low}
 use Rattle.solver_face.specs.Solving.{IsAnswer}
 use Rattle.solver_face.specs.declared.answer.Answer.TheVariants as answer

@@ -10,7 +10,7 @@ use Rattle.sat_core.specs.Hints.{NumberedClause}
 use Rattle.sat_core.specs.Derivation.{numbered_from}
 use Rattle.sat_core.specs.Fresh.{IsOpen, IsAtRest, IsClosed}
 use Rattle.search_trail.specs.declared.entry.Entry.{Entry}
-use Rattle.search_trail.specs.Trails.{TrailParts, IsTrail, IsCut, known_of, up_to, assigned, decided}
+use Rattle.search_trail.specs.Trails.{TrailParts, IsTrail, IsCutBack, known_of, up_to, assigned, decided}
 use Rattle.search_trail.specs.Reasons.{IsReason}
 use Rattle.sat_core.proofs.OpenLaws.{is_known-at}
 use Rattle.search_trail.proofs.TrailLaws.{IsTrail-push, now_low, one_sign}
@@ -44,7 +44,7 @@ IsPlain-decide clauses t lit laws closed plain =
           ]);
     }
 
-pub IsPlain-cut : (clauses : List (List Lit)) (t t' : TrailParts) (level : ℕ) → level ≤ t.present → IsTrail t' → t'.vars ≡ t.vars → IsCut level t.entries t'.entries → t'.present ≡ level → IsPlain clauses t → IsPlain clauses t'
+pub IsPlain-cut : (clauses : List (List Lit)) (t t' : TrailParts) (level : ℕ) → level ≤ t.present → IsTrail t' → t'.vars ≡ t.vars → IsCutBack level t.entries t'.entries → t'.present ≡ level → IsPlain clauses t → IsPlain clauses t'
 IsPlain-cut clauses t t' level low laws vars cut present plain = record {
   laws = laws;
   clauses_over = subst (λ n. All (IsClause n) clauses) (sym vars) plain.clauses_over;
@@ -62,7 +62,7 @@ IsPlain-add clauses t lits clause rest plain = record {
 }
 
 -- after going back to its level the learned clause is one more
-pub learned_plain : (clauses : List (List Lit)) (t t' : TrailParts) (lits : List Lit) (level : ℕ) → IsPlain clauses t → IsClause t.vars lits → IsAsserting t lits level → IsTrail t' → t'.vars ≡ t.vars → IsCut level t.entries t'.entries → t'.present ≡ level → IsPlain (clauses ++ lits ∷ []) t'
+pub learned_plain : (clauses : List (List Lit)) (t t' : TrailParts) (lits : List Lit) (level : ℕ) → IsPlain clauses t → IsClause t.vars lits → IsAsserting t lits level → IsTrail t' → t'.vars ≡ t.vars → IsCutBack level t.entries t'.entries → t'.present ≡ level → IsPlain (clauses ++ lits ∷ []) t'
 learned_plain clauses t t' lits level plain clause head laws vars cut present =
     IsPlain-add clauses t' lits (subst (λ n. IsClause n lits) (sym vars) clause)
     (λ n below. subst (λ known. IsAtRest known lits) (sym (up_to-same level n t.entries t'.entries cut (omega arith))) (learned_rest t lits level n plain.laws head (omega arith)))

@@ -1,13 +1,13 @@
 -- A round of the search: what it leaves, and that it comes nearer to the end.
-use Rattle.std.proofs.Common.{◌≡◌, ℕ, ◌+◌, ◌-◌, ◌*◌, ◌<◌, ◌≤◌, Bool, false, List, ◌++◌, length, refl, ap, sym, subst, ◌∙◌, arith}
+use Rattle.std.proofs.Common.{◌≡◌, ℕ, ◌+◌, ◌-◌, ◌*◌, ◌<◌, ◌≤◌, false, length, ap, sym, subst, ◌∙◌, arith}
 use Rattle.std.proofs.lemmas.List.{append-nil, length-append}
 use Rattle.derivation_log.specs.Steps.{derived_steps}
 use Rattle.search_trail.specs.Trails.{TrailParts, IsTrail, Grows}
 use Rattle.solver_face.specs.Solving.{Searched}
-use Rattle.solver_face.proofs.SolvingLaws.{taken_grows}
+use Rattle.solver_face.proofs.SolvingLaws.{numbers_used_grows}
 use Rattle.plain_solver.specs.declared.state.State.{State}
 use Rattle.plain_solver.specs.States.{weave, events_of, solving_of, left_over, IsState}
-use Rattle.plain_solver.proofs.StepLemmas.{taken_is}
+use Rattle.plain_solver.proofs.StepLemmas.{numbers_used_is}
 
 -- nothing was derived
 pub same_searched : (s n : State) (had : ℕ) → IsState n → n.clauses ≡ s.clauses → n.given ≡ s.given → n.history ≡ s.history → n.log ≡ s.log → Searched (solving_of s false) (solving_of n false) had had
@@ -24,7 +24,7 @@ same_searched s n had state clauses given history log = record {
 -- the numbers suffice
 pub searched_room : (s n : State) (had left : ℕ) → IsState s → IsState n → Searched (solving_of s false) (solving_of n false) had left → length n.clauses.clauses + left ≡ length s.clauses.clauses + had
 searched_room s n had left before after searched =
-    omega (arith, taken_grows (solving_of s false) (solving_of n false) had left searched, taken_is s false before, taken_is n false after)
+    omega (arith, numbers_used_grows (solving_of s false) (solving_of n false) had left searched, numbers_used_is s false before, numbers_used_is n false after)
 
 -- a conflict less, whatever opens again
 pub conflict_less : (had left vars one other : ℕ) → left + 1 ≡ had → left * (vars + 1) + (vars - one) < had * (vars + 1) + (vars - other)

@@ -11,7 +11,7 @@ use Rattle.sat_core.specs.Hints.{NumberedClause, hints_fault}
 use Rattle.sat_core.specs.Derivation.{DerivedStep, adds, drops, AddsEmptyClause, numbered_from}
 use Rattle.sat_core.specs.Fresh.{IsFresh}
 use Rattle.sat_core.specs.Search.{Event, gives, derives, Search, after_event, next_number, IsLearned, log_of, units_of, adds_in}
-use Rattle.search_trail.specs.Trails.{TrailParts, IsTrail, IsCut}
+use Rattle.search_trail.specs.Trails.{TrailParts, IsTrail, IsCutBack}
 use Rattle.search_trail.proofs.TrailLaws.{IsTrail-cut}
 use Rattle.search_trail.proofs.ReasonLaws.{numbered-push, clause_of-numbered}
 use Rattle.conflict_learn.specs.Learning.{IsConflict, IsLearnedFrom}
@@ -94,7 +94,7 @@ at_add search vars formula clauses id lits hints at is = record {
 }
 
 -- ---- the trail that has gone back
-pub IsTrail-back : (t t' : TrailParts) (level : ℕ) → IsTrail t → level ≤ t.present → t'.vars ≡ t.vars → IsCut level t.entries t'.entries → t'.read ≡ min t.read (length t'.entries) → t'.present ≡ level → IsTrail t'
+pub IsTrail-back : (t t' : TrailParts) (level : ℕ) → IsTrail t → level ≤ t.present → t'.vars ≡ t.vars → IsCutBack level t.entries t'.entries → t'.read ≡ min t.read (length t'.entries) → t'.present ≡ level → IsTrail t'
 IsTrail-back t t' level laws low vars cut read present =
     let long : length t'.entries ≡ cut.size = ap length cut.front ∙ length-take-le cut.size t.entries cut.within in
     let make : ℕ → List Rattle.search_trail.specs.declared.entry.Entry.Entry → ℕ → ℕ → TrailParts = λ v es r p. record { vars = v; entries = es; read = r; present = p } in

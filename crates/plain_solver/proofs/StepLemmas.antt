@@ -13,14 +13,14 @@ use Rattle.sat_core.specs.Clauses.{IsOver, IsClause}
 use Rattle.sat_core.specs.Derivation.{DerivedStep, adds, AddsEmptyClause, numbered_from}
 use Rattle.sat_core.specs.Search.{Event, gives, derives, Search, search_of, after_event, after_events, IsNext, IsLearned, log_of, units_of, adds_in}
 use Rattle.sat_core.proofs.SearchLaws.{after_events-append}
-use Rattle.search_trail.specs.Trails.{TrailParts, IsTrail, IsCut}
+use Rattle.search_trail.specs.Trails.{TrailParts, IsTrail, IsCutBack}
 use Rattle.conflict_learn.specs.Learning.{IsLearnedFrom}
-use Rattle.solver_face.specs.Solving.{search_now, taken, Searched, IsRefuted, IsAnswer, EndsInAdd, AddNoEmptyClause}
+use Rattle.solver_face.specs.Solving.{search_now, numbers_used, Searched, IsRefuted, IsAnswer, EndsInAdd, AddNoEmptyClause}
 use Rattle.solver_face.specs.declared.answer.Answer.TheVariants as answer
 use Rattle.solver_face.proofs.SolvingLaws.{sound_more, searched_none, searched_add}
 use Rattle.plain_solver.specs.declared.state.State.{State}
 use Rattle.plain_solver.specs.Plain.{IsPlain}
-use Rattle.plain_solver.specs.States.{weave, steps_in, added_by, IsAdd, IsAt, Refuted, clauses_given, events_of, solving_of, IsState, IsMet}
+use Rattle.plain_solver.specs.States.{weave, steps_in, added_by, IsAdd, IsAt, Refuted, clauses_given, events_of, solving_of, IsState, IsConflictMet}
 use Rattle.plain_solver.proofs.PlainLemmas.{IsPlain-cut, IsPlain-add, learned_plain}
 use Rattle.plain_solver.proofs.StateLemmas.{weave-unit, weave-step, log_of-weave, steps_in-unit, steps_in-step, added_by-append, length-added, adds_in-all, at_unit, at_add, IsTrail-back, step_learned, ends_in_add, refuted_now}
 
@@ -28,9 +28,9 @@ use Rattle.plain_solver.proofs.StateLemmas.{weave-unit, weave-step, log_of-weave
 pub log_is : (s : State) → IsState s → log_of (events_of s) ≡ derived_steps s.log.steps
 log_is s state = log_of-weave s.history.items (derived_steps s.log.steps) (state.woven ∙ sym (length-map s.log.steps derived))
 
--- as many numbers are taken as there are clauses
-pub taken_is : (s : State) (starved : Bool) → IsState s → taken (solving_of s starved) ≡ length s.clauses.clauses
-taken_is s starved state =
+-- as many clause numbers are in use as there are clauses
+pub numbers_used_is : (s : State) (starved : Bool) → IsState s → numbers_used (solving_of s starved) ≡ length s.clauses.clauses
+numbers_used_is s starved state =
     let whole : length s.clauses.clauses ≡ length (clauses_given s ++ added_by (events_of s)) = ap length state.all in
     omega (arith, whole, Rattle.std.proofs.lemmas.List.length-append (clauses_given s) (added_by (events_of s)), length-added (events_of s))
 
@@ -123,7 +123,7 @@ state_more s n event lits state vars grew given events added woven no_drop plain
     }
 
 -- ---- a unit
-plain_unit : (clauses : List (List Lit)) (t t' : TrailParts) (lit : Lit) → IsPlain clauses t → IsOver t.vars lit → t'.vars ≡ t.vars → IsCut 0 t.entries t'.entries → t'.read ≡ min t.read (length t'.entries) → t'.present ≡ 0 → IsPlain (clauses ++ (lit ∷ []) ∷ []) t'
+plain_unit : (clauses : List (List Lit)) (t t' : TrailParts) (lit : Lit) → IsPlain clauses t → IsOver t.vars lit → t'.vars ≡ t.vars → IsCutBack 0 t.entries t'.entries → t'.read ≡ min t.read (length t'.entries) → t'.present ≡ 0 → IsPlain (clauses ++ (lit ∷ []) ∷ []) t'
 plain_unit clauses t t' lit plain over vars cut read bottom =
     let laws : IsTrail t' = IsTrail-back t t' 0 plain.laws (omega arith) vars cut read bottom in
     let over' : IsOver t'.vars lit = subst (λ n. IsOver n lit) (sym vars) over in
@@ -138,7 +138,7 @@ unit_woven s n lit state history log =
     ∙ (ap (λ steps. weave (s.history.items ++ Some lit ∷ []) (derived_steps steps)) log
     ∙ weave-unit s.history.items (derived_steps s.log.steps) lit (state.woven ∙ sym (length-map s.log.steps derived)))
 
-pub state_unit : (s n : State) (lit : Lit) → IsState s → n.clauses.vars ≡ s.clauses.vars → n.clauses.clauses ≡ s.clauses.clauses ++ (lit ∷ []) ∷ [] → n.given ≡ s.given → n.history.items ≡ s.history.items ++ Some lit ∷ [] → n.log.steps ≡ s.log.steps → n.trail.vars ≡ s.trail.vars → IsCut 0 s.trail.entries n.trail.entries → n.trail.read ≡ min s.trail.read (length n.trail.entries) → n.trail.present ≡ 0 → n.space ≡ s.space → n.valuation.values ≡ s.valuation.values → n.refuted ≡ s.refuted → IsOver s.clauses.vars lit → length s.clauses.clauses < 2 ^ 32 - 1 → IsState n
+pub state_unit : (s n : State) (lit : Lit) → IsState s → n.clauses.vars ≡ s.clauses.vars → n.clauses.clauses ≡ s.clauses.clauses ++ (lit ∷ []) ∷ [] → n.given ≡ s.given → n.history.items ≡ s.history.items ++ Some lit ∷ [] → n.log.steps ≡ s.log.steps → n.trail.vars ≡ s.trail.vars → IsCutBack 0 s.trail.entries n.trail.entries → n.trail.read ≡ min s.trail.read (length n.trail.entries) → n.trail.present ≡ 0 → n.space ≡ s.space → n.valuation.values ≡ s.valuation.values → n.refuted ≡ s.refuted → IsOver s.clauses.vars lit → length s.clauses.clauses < 2 ^ 32 - 1 → IsState n
 state_unit s n lit state vars grew given history log trail_vars cut read bottom space values refuted over room =
     state_more s n (gives lit) (lit ∷ []) state vars grew given (unit_woven s n lit state history log) refl
     (ap steps_in history ∙ (steps_in-unit s.history.items lit ∙ (state.woven ∙ ap length (sym log))))
@@ -153,7 +153,7 @@ state_unit s n lit state vars grew given history log trail_vars cut read bottom 
     (subst (λ b. Refuted b (derived_steps n.log.steps)) (sym refuted) (subst (λ steps. Refuted s.refuted (derived_steps steps)) (sym log) state.refuted))
 
 -- ---- a conflict
-plain_met : (clauses : List (List Lit)) (t t' : TrailParts) (lits : List Lit) (hints : List ClauseId) (level : ℕ) → IsPlain clauses t → IsLearnedFrom (numbered_from 1 clauses) t lits hints level → t'.vars ≡ t.vars → IsCut level t.entries t'.entries → t'.read ≡ min t.read (length t'.entries) → t'.present ≡ level → IsPlain (clauses ++ lits ∷ []) t'
+plain_met : (clauses : List (List Lit)) (t t' : TrailParts) (lits : List Lit) (hints : List ClauseId) (level : ℕ) → IsPlain clauses t → IsLearnedFrom (numbered_from 1 clauses) t lits hints level → t'.vars ≡ t.vars → IsCutBack level t.entries t'.entries → t'.read ≡ min t.read (length t'.entries) → t'.present ≡ level → IsPlain (clauses ++ lits ∷ []) t'
 plain_met clauses t t' lits hints level plain learned vars cut read present = elim (cases_eq t.present 0) [
   | inl bottom ↦
       let zero_level : level ≡ 0 = learned.stays_at_zero bottom in
@@ -170,7 +170,7 @@ back_within live t lits hints level learned = elim (cases_eq t.present 0) [
   | inr above ↦ omega (arith, (learned.asserting (omega arith)).lower)
 ]
 
-pub state_met : (s n : State) (step : Step) (id : ClauseId) (lits : List Lit) (hints : List ClauseId) (level : ℕ) → IsState s → s.refuted ≡ false → IsLearnedFrom (numbered_from 1 s.clauses.clauses) s.trail lits hints level → id.0 ≡ length s.clauses.clauses + 1 → derived step ≡ adds id lits hints → n.clauses.vars ≡ s.clauses.vars → n.clauses.clauses ≡ s.clauses.clauses ++ lits ∷ [] → n.given ≡ s.given → n.history.items ≡ s.history.items ++ None ∷ [] → n.log.steps ≡ s.log.steps ++ step ∷ [] → n.trail.vars ≡ s.trail.vars → IsCut level s.trail.entries n.trail.entries → n.trail.read ≡ min s.trail.read (length n.trail.entries) → n.trail.present ≡ level → n.space ≡ s.space → n.valuation.values ≡ s.valuation.values → (n.refuted ≡ true → lits ≡ []) → (n.refuted ≡ false → lits ≢ []) → length s.clauses.clauses < 2 ^ 32 - 1 → IsState n × IsMet s n
+pub state_met : (s n : State) (step : Step) (id : ClauseId) (lits : List Lit) (hints : List ClauseId) (level : ℕ) → IsState s → s.refuted ≡ false → IsLearnedFrom (numbered_from 1 s.clauses.clauses) s.trail lits hints level → id.0 ≡ length s.clauses.clauses + 1 → derived step ≡ adds id lits hints → n.clauses.vars ≡ s.clauses.vars → n.clauses.clauses ≡ s.clauses.clauses ++ lits ∷ [] → n.given ≡ s.given → n.history.items ≡ s.history.items ++ None ∷ [] → n.log.steps ≡ s.log.steps ++ step ∷ [] → n.trail.vars ≡ s.trail.vars → IsCutBack level s.trail.entries n.trail.entries → n.trail.read ≡ min s.trail.read (length n.trail.entries) → n.trail.present ≡ level → n.space ≡ s.space → n.valuation.values ≡ s.valuation.values → (n.refuted ≡ true → lits ≡ []) → (n.refuted ≡ false → lits ≢ []) → length s.clauses.clauses < 2 ^ 32 - 1 → IsState n × IsConflictMet s n
 state_met s n step id lits hints level state open_yet learned number step_is vars grew given history log trail_vars cut read present space values empty some room =
     let none : AddNoEmptyClause (derived_steps s.log.steps) = subst (λ b. Refuted b (derived_steps s.log.steps)) open_yet state.refuted in
     let logged : derived_steps n.log.steps ≡ derived_steps s.log.steps ++ adds id lits hints ∷ [] = ap derived_steps log ∙ (map_push derived s.log.steps step ∙ ap (λ d. derived_steps s.log.steps ++ d ∷ []) step_is) in
@@ -212,12 +212,12 @@ spent_of s starved left state is ends none = (
   subst AddNoEmptyClause (sym (log_is s state)) (subst (λ b. Refuted b (derived_steps s.log.steps)) is state.refuted),
 )
 
-pub met_searched : (s n : State) (had left : ℕ) → IsState s → IsMet s n → left + 1 ≡ had → Searched (solving_of s false) (solving_of n false) had left
+pub met_searched : (s n : State) (had left : ℕ) → IsState s → IsConflictMet s n → left + 1 ≡ had → Searched (solving_of s false) (solving_of n false) had left
 met_searched s n had left state met spent =
     subst (λ k. Searched (solving_of s false) (solving_of n false) k left) spent
     (searched_add (solving_of s false) (solving_of s false) (solving_of n false) (left + 1) left met.id met.lits met.hints (searched_none (solving_of s false) (left + 1) state.sound) met.learned met.same_vars met.same_formula met.one_more)
 
-pub met_ends : (s n : State) → IsMet s n → EndsInAdd (derived_steps n.log.steps)
+pub met_ends : (s n : State) → IsConflictMet s n → EndsInAdd (derived_steps n.log.steps)
 met_ends s n met = subst EndsInAdd (sym met.logged) (ends_in_add (derived_steps s.log.steps) met.id met.lits met.hints)
 
 -- the parts of a solver that contracts see, whatever its want of memory
@@ -238,7 +238,7 @@ conflicts_are s state = ap adds_in (log_is s state) ∙ (adds_in-all (derived_st
 
 pub steps_few : (s : State) → IsState s → length s.log.steps < 2 ^ 32
 steps_few s state =
-    let whole : length (clauses_given s) + length (units_of (events_of s)) + adds_in (log_of (events_of s)) ≡ length s.clauses.clauses = taken_is s false state in
+    let whole : length (clauses_given s) + length (units_of (events_of s)) + adds_in (log_of (events_of s)) ≡ length s.clauses.clauses = numbers_used_is s false state in
     omega (arith, state.few, conflicts_are s state)
 
 not_refuted : (steps : List DerivedStep) (last : Option DerivedStep) → slice_get steps (length steps - 1) ≡ last → AddNoEmptyClause steps → AddsEmptyClause last → ⊥
@@ -267,8 +267,8 @@ on_either (Err e) P Q R one other make_one make_other = make_other other
 pub answered : {E : Type 0} (r : Result Rattle.solver_face.specs.declared.answer.Answer.Answer E) → r ≡ Ok answer.Unsat → Rattle.std.specs.Prelude.IfOk r (λ a. a ≡ answer.Unsat)
 answered r is = subst (λ (x : Result Rattle.solver_face.specs.declared.answer.Answer.Answer _). Rattle.std.specs.Prelude.IfOk x (λ a. a ≡ answer.Unsat)) (sym is) refl
 
-pub taken_unit : (s n : State) (lit : Lit) (one other : Bool) → clauses_given n ≡ clauses_given s → events_of n ≡ events_of s ++ gives lit ∷ [] → taken (solving_of n other) ≡ taken (solving_of s one) + 1
-taken_unit s n lit one other formula grew =
+pub numbers_used_unit : (s n : State) (lit : Lit) (one other : Bool) → clauses_given n ≡ clauses_given s → events_of n ≡ events_of s ++ gives lit ∷ [] → numbers_used (solving_of n other) ≡ numbers_used (solving_of s one) + 1
+numbers_used_unit s n lit one other formula grew =
     let units : length (units_of (events_of n)) ≡ length (units_of (events_of s)) + 1 = ap (λ e. length (units_of e)) grew ∙ (ap length (Rattle.sat_core.proofs.SearchLaws.units_given (events_of s) lit) ∙ length_push (units_of (events_of s)) lit) in
     let adds : adds_in (log_of (events_of n)) ≡ adds_in (log_of (events_of s)) = ap (λ e. adds_in (log_of e)) grew ∙ Rattle.sat_core.proofs.SearchLaws.adds_given (events_of s) lit in
     let given : length (clauses_given n) ≡ length (clauses_given s) = ap length formula in

@@ -74,7 +74,7 @@ pub record IsState (s : State) : Type 0 where
   pub refuted : Refuted s.refuted (derived_steps s.log.steps)
 
 -- what a conflict leaves: one learned step more, behind the others
-pub record IsMet (old new : State) : Type 0 where
+pub record IsConflictMet (old new : State) : Type 0 where
   pub same_vars : new.clauses.vars ≡ old.clauses.vars
   pub same_formula : clauses_given new ≡ clauses_given old
   pub id : ClauseId

@@ -1,9 +1,9 @@
 //! A conflict: one clause is learned, logged and added, and the trail goes back.
-ghost use Rattle.std.specs.Prelude.{◌≡◌, ◌≢◌, ◌^◌, ◌-◌, ◌+◌, ◌<◌, ◌++◌, ◌∷◌, [], false, length, IfOk, OnOk, OnErr};
+ghost use Rattle.std.specs.Prelude.{◌≡◌, ◌^◌, ◌-◌, ◌+◌, ◌<◌, false, length, IfOk, OnOk, OnErr};
 ghost use Rattle.derivation_log.specs.Steps.{derived};
 ghost use Rattle.sat_core.specs.Derivation.{adds};
 ghost use Rattle.plain_solver.specs.Plain.{IsFalseClause};
-ghost use Rattle.plain_solver.specs.States.{IsState, solving_of, IsMet};
+ghost use Rattle.plain_solver.specs.States.{IsState, solving_of, IsConflictMet};
 
 use crate::state::State;
 use conflict_learn::{Learned, learn_with};
@@ -20,7 +20,7 @@ pub(crate) fn conflict(state: &mut State, id: ClauseId) -> Result<(), AllocError
     requires conflict { IsFalseClause state.old.clauses.clauses state.old.trail id }
     requires numbered { length state.old.clauses.clauses < 2 ^ 32 - 1 }
     ensures state { IsState state.new }
-    ensures met { OnOk result (IsMet state.old state.new) }
+    ensures met { OnOk result (IsConflictMet state.old state.new) }
     ensures err { OnErr result (solving_of state.new false ≡ solving_of state.old false) }
 {
     let alloc = state.clauses.allocator();

@@ -1,5 +1,5 @@
 //! Passes over all clauses, until one meets no unit.
-ghost use Rattle.std.specs.Prelude.{◌≡◌, ◌<◌, ◌≤◌, All, length, MatchOption};
+ghost use Rattle.std.specs.Prelude.{◌≡◌, All, length, MatchOption};
 ghost use Rattle.sat_core.specs.Fresh.{IsAtRest};
 ghost use Rattle.search_trail.specs.Trails.{known_of, Grows};
 ghost use Rattle.plain_solver.specs.Plain.{IsPlain, IsFalseClause};

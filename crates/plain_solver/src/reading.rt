@@ -1,5 +1,4 @@
 //! What one clause tells under the trail.
-ghost use Rattle.std.specs.Prelude.{◌≡◌, All};
 ghost use Rattle.sat_core.specs.Clauses.{IsClause};
 ghost use Rattle.search_trail.specs.Trails.{known_of};
 ghost use Rattle.plain_solver.specs.Plain.{ReadingTells};

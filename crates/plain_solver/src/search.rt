@@ -1,5 +1,5 @@
 //! The search: rounds of propagation, each ended by a conflict, a decision or an answer.
-ghost use Rattle.std.specs.Prelude.{◌≡◌, ℕ, ◌+◌, ◌-◌, ◌^◌, ◌<◌, true, false, All, None, Ok, length, IfOk, IfSome, OnSome, IsTrue};
+ghost use Rattle.std.specs.Prelude.{◌≡◌, ℕ, ◌+◌, ◌^◌, ◌<◌, true, false, All, None, Ok, length, IfOk, IfSome};
 ghost use Rattle.sat_core.specs.Fresh.{IsAtRest};
 ghost use Rattle.search_trail.specs.Trails.{known_of};
 ghost use Rattle.solver_face.specs.Solving.{Searched, IsAnswer, EndsInAdd};

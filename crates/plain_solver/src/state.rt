@@ -1,5 +1,5 @@
 //! What the plain solver keeps.
-ghost use Rattle.std.specs.Prelude.{◌≡◌, IfOk, [], length};
+ghost use Rattle.std.specs.Prelude.{◌≡◌, IfOk, []};
 ghost use Rattle.plain_solver.specs.States.{IsState, events_of, clauses_given};
 
 use conflict_learn::LearnSpace;

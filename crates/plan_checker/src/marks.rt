@@ -3,7 +3,6 @@
 ghost use Rattle.std.specs.Prelude.{◌≡◌, ◌+◌, ◌<◌, ◌⊎◌, ◌↔◌, ℕ, All, IfOk, IsTrue, length};
 ghost use Rattle.std.specs.Bool.{OnFalse};
 ghost use Rattle.vss_lists.specs.Breaks.{HoldsOfEach};
-ghost use Rattle.layout_rules.specs.Classes.{class_of};
 ghost use Rattle.plan_checker.specs.ClashSearch.{AreAllApart, IsGoodTraffic};
 ghost use Rattle.plan_checker.specs.ClassMarks.{AreEarlier, AreOfTrains, IsClassMarked, IsFreeFor, IsMarkedBy, IsOneTaken, IsTaken, IsTrainMarked, KeepsMarks, MarksOnly};
 

@@ -1,11 +1,9 @@
 //! The first pair of trains that aren't apart at a step.
 
-ghost use Rattle.std.specs.Prelude.{◌≡◌, ◌<◌, ◌↔◌, IsTrue, MatchOption, Some, length, slice_get};
+ghost use Rattle.std.specs.Prelude.{◌<◌, ◌↔◌, IsTrue, MatchOption, Some, length};
 ghost use Rattle.vss_lists.specs.Breaks.{HoldsOfEach};
 ghost use Rattle.cell_net.specs.Space.{IsCell};
 ghost use Rattle.cell_net.specs.Plans.{AreSeparated};
-ghost use Rattle.cell_net.specs.Runs.{IsSweepAt};
-ghost use Rattle.cell_net.specs.declared.plans.Sweep.{Sweep};
 ghost use Rattle.plan_checker.specs.Clashes.{AreFirstLinked};
 ghost use Rattle.plan_checker.specs.ClashSearch.{AreAllApart, AreTrainsApart, AreCellsOfTraffic, AreLinked, IsApartFromLater, IsClash, IsFirstClashAt, IsFirstClashOf, IsFirstLinkedTo, IsSeparated, IsGoodTraffic};
 

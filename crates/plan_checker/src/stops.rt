@@ -1,9 +1,8 @@
 //! Whether the stops of a run are met.
 
-ghost use Rattle.std.specs.Prelude.{◌≡◌, ◌+◌, ◌<◌, ◌≤◌, ◌↔◌, ◌^◌, All, IfOk, IsTrue, MatchOption, length, slice_index_or, false, true, ℕ};
+ghost use Rattle.std.specs.Prelude.{◌≡◌, ◌+◌, ◌<◌, ◌↔◌, ◌^◌, All, IfOk, IsTrue, MatchOption, length, slice_index_or, false, true, ℕ};
 ghost use Rattle.vss_lists.specs.Breaks.{HoldsOfEach, BreaksFirstAt};
 ghost use Rattle.cell_net.specs.Rules.{IsGoodStop};
-ghost use Rattle.cell_net.specs.Space.{IsCell};
 ghost use Rattle.cell_net.specs.Runs.{IsCellOf, IsMet, StandsIn};
 ghost use Rattle.plan_checker.specs.RunRules.{IsMetAt};
 ghost use Rattle.plan_checker.specs.Stations.{CountsAt, MarksCells, MarksStation};

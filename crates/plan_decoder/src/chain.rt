@@ -3,7 +3,7 @@ ghost use Rattle.std.specs.Prelude.{◌≡◌, ◌<◌, ◌≤◌, ◌-◌, ◌�
 ghost use Rattle.sweep_table.specs.Tables.{is_entry};
 ghost use Rattle.clause_list.specs.Values.{value};
 ghost use Rattle.clause_list.specs.Numbers.{cone};
-ghost use Rattle.plan_laws.specs.Telling.{entry_at, first_told, follow, is_told, is_told_entry, told_step};
+ghost use Rattle.plan_laws.specs.Telling.{entry_at, first_told, follow, is_told, told_step};
 
 use crate::values::value_of;
 use cell_net::Instance;

@@ -17,7 +17,7 @@ use Rattle.clause_list.specs.Coding.{coded}
 use Rattle.clause_list.proofs.ListLaws.{in_range_is}
 use Rattle.clause_list.proofs.CodedLaws.{one_of}
 use Rattle.plan_laws.specs.Chains.{IsChain, IsStopMet, StandsAt}
-use Rattle.plan_values.specs.Values.{stands_at, is_met}
+use Rattle.plan_values.specs.Values.{stands_at_step, is_met}
 use Rattle.plan_values.specs.Meanings.{AreItemsOf, IsChainOf}
 use Rattle.plan_values.proofs.Coning.{lies_in_cones}
 
@@ -80,7 +80,7 @@ all_pass test (x ∷ xs) each =
     let others : list_all test xs ≡ true = all_pass test xs (λ y inside. let (k, within, same) = inside in each y (suc k, omega arith, same)) in
     rw (this, others) refl
 
-stands_there : (table : Table) (x : ℕ) (ids : List SweepId) (station t : ℕ) → StandsAt table x ids station t → stands_at table x (numbers_of ids) station t ≡ true
+stands_there : (table : Table) (x : ℕ) (ids : List SweepId) (station t : ℕ) → StandsAt table x ids station t → stands_at_step table x (numbers_of ids) station t ≡ true
 unfolding StandsAt
 stands_there table x ids station t (begun, (v, is, stands)) =
     let within : t - x < length ids = slice_get_within ids (t - x) v is in
@@ -100,7 +100,7 @@ met_from table x ids stop (s, from, until, each) = record {
   step = s;
   after = from;
   before = until;
-  met = all_pass (stands_at table x (numbers_of ids) stop.station.0) (from_below s (s + stop.dwell)) (λ t inside. let (h, k) = in_range_is s (s + stop.dwell) t inside in stands_there table x ids stop.station.0 t (each t h k));
+  met = all_pass (stands_at_step table x (numbers_of ids) stop.station.0) (from_below s (s + stop.dwell)) (λ t inside. let (h, k) = in_range_is s (s + stop.dwell) t inside in stands_there table x ids stop.station.0 t (each t h k));
 }
 
 -- a chain, where the numbers of its train are coded

@@ -11,7 +11,7 @@ use Rattle.clause_list.specs.Numbers.{CodedTrain, cone, sweep, run_ended, waits,
 use Rattle.clause_list.specs.StopClauses.{stop_at, stop_places, meets, last_of_stop, stop_met, stop_met_clauses, stop_in_run, stops_in_run, stop_in_run_clauses, not_standing, stand, stands_at as stand_at_clauses, stands_from, stands_while, stand_clauses, entered, entered_before, stop_after_entry_clauses}
 use Rattle.clause_list.proofs.ListLaws.{in_range_is, in_range, filter_is, both_true}
 use Rattle.clause_list.proofs.NumberLaws.{beginning_is}
-use Rattle.plan_values.specs.Values.{has_step, has, stands_at, is_met, is_over, is_waiting}
+use Rattle.plan_values.specs.Values.{has_step, has, stands_at_step, is_met, is_over, is_waiting}
 use Rattle.plan_values.specs.Meanings.{Means, IsChainOf}
 use Rattle.plan_values.proofs.Making.{make_true, make_each, make_one, make_any, not_both}
 use Rattle.plan_values.proofs.Running.{has_says, not_over}
@@ -28,7 +28,7 @@ all_says test (y ∷ ys) x all (suc k, within, same) = all_says test ys x (both_
 -- while a stop is met the chain has an item, which stands in the station
 met_says : (table : Table) (x : ℕ) (items : List ℕ) (stop : StopSpec) (s t : ℕ) → is_met table x items stop s ≡ true → s ≤ t → t < s + stop.dwell → (x ≤ t) × (t - x < length items) × (stands_in table stop.station.0 (get_or items (t - x) 0) ≡ true)
 met_says table x items stop s t met h k =
-    let here = all_says (stands_at table x items stop.station.0) (from_below s (s + stop.dwell)) t met (in_range s (s + stop.dwell) t h k) in
+    let here = all_says (stands_at_step table x items stop.station.0) (from_below s (s + stop.dwell)) t met (in_range s (s + stop.dwell) t h k) in
     let (step, stands) = both_true (has_step x items t) (stands_in table stop.station.0 (slice_index items (t - x))) here in
     let (begun, there) = both_true (nat_le x t) (nat_lt (t - x) (length items)) step in
     (leb-true x t begun, ltb-true (t - x) (length items) there, stands)

@@ -31,12 +31,12 @@ abbrev pub is_over : ℕ → List ℕ → ℕ → Bool
 is_over x items t = nat_le (x + length items) t
 
 -- it stands in the station
-abbrev pub stands_at : Table → ℕ → List ℕ → ℕ → ℕ → Bool
-stands_at table x items station t = has_step x items t && stands_in table station (slice_index items (t - x))
+abbrev pub stands_at_step : Table → ℕ → List ℕ → ℕ → ℕ → Bool
+stands_at_step table x items station t = has_step x items t && stands_in table station (slice_index items (t - x))
 
 -- the stop is met from the step on
 abbrev pub is_met : Table → ℕ → List ℕ → StopSpec → ℕ → Bool
-is_met table x items stop s = list_all (stands_at table x items stop.station.0) (from_below s (s + stop.dwell))
+is_met table x items stop s = list_all (stands_at_step table x items stop.station.0) (from_below s (s + stop.dwell))
 
 abbrev pub is_met_at : Table → ℕ → List ℕ → ℕ → StopSpec × ℕ → Bool
 is_met_at table x items place pair = is_met table x items pair.0 pair.1

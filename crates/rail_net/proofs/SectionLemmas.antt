@@ -14,7 +14,7 @@ use Rattle.rail_net.specs.Parts.{EndsAt, IsNode, IsTrackOfSection}
 use Rattle.rail_net.specs.Borders.{IsFree}
 use Rattle.rail_net.specs.Refusals.{HasNewNodes}
 use Rattle.rail_net.specs.Rules.{IsListedOnce}
-use Rattle.rail_net.specs.Sections.{Adjoin, IsConnected, IsOfOneSection}
+use Rattle.rail_net.specs.Sections.{Adjoin, HangsTogether, IsOfOneSection}
 use Rattle.rail_net.specs.Entries.{AreMixed, HasEntry, IsMixed}
 use Rattle.rail_net.specs.Tables.{AreMarkedApart, AreBars, AreTrackEnds, AreHomes, AreSplits, border_flag, flags_of, paired, track_segment, segments_from, spread, under, zero_under}
 use Rattle.rail_net.specs.declared.entries.Entry.{Entry}
@@ -228,8 +228,8 @@ module _ (p : NetParts) (ends : List TrackEnds) (homes : List ℕ) (all_ends : A
         let within : k < length groups = subst (λ n. k < n) (sym (len ∙ all_ends.count)) (slice_get_within p.tracks k part.0 part.1) in
         there_is groups k within
 
-    joins : (section : ℕ) → ¬ IsMixed (paired homes groups) section → IsConnected p section
-    unfolding IsMixed IsConnected
+    joins : (section : ℕ) → ¬ IsMixed (paired homes groups) section → HangsTogether p section
+    unfolding IsMixed HangsTogether
     joins section none track other in_section also =
         let g = group_of section track in_section in
         let h = group_of section other also in
@@ -245,8 +245,8 @@ module _ (p : NetParts) (ends : List TrackEnds) (homes : List ℕ) (all_ends : A
         section_pair : (a b : ℕ) → HasEntry (paired homes groups) section a → HasEntry (paired homes groups) section b → a ≢ b → (one : ℕ) × (other : ℕ) × HasEntry (paired homes groups) section one × HasEntry (paired homes groups) section other × (one ≢ other)
         section_pair a b one two differ = (a, b, one, two, differ)
 
-    connected_one : (section : ℕ) → IsConnected p section → ¬ IsMixed (paired homes groups) section
-    unfolding IsMixed IsConnected
+    connected_one : (section : ℕ) → HangsTogether p section → ¬ IsMixed (paired homes groups) section
+    unfolding IsMixed HangsTogether
     connected_one section connected (a, b, has_a, has_b, differ) =
         let i = place_of (paired homes groups) (under section a) has_a in
         let j = place_of (paired homes groups) (under section b) has_b in
@@ -262,7 +262,7 @@ module _ (p : NetParts) (ends : List TrackEnds) (homes : List ℕ) (all_ends : A
     pub are_apart : (marks : List Bool) → length marks ≡ length p.sections → AreMixed (paired homes groups) marks → AreMarkedApart p marks
     are_apart marks same mixed = record {
       len = same;
-      at_section = λ section mark marked. unmarked mark (IsMixed (paired homes groups) section) (IsConnected p section) (mark_tells (paired homes groups) marks section mark mixed marked)
+      at_section = λ section mark marked. unmarked mark (IsMixed (paired homes groups) section) (HangsTogether p section) (mark_tells (paired homes groups) marks section mark mixed marked)
           (joins section) (connected_one section);
     }
 

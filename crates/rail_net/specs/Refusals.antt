@@ -3,7 +3,7 @@ use Rattle.std.specs.Prelude.{◌≢◌, ℕ, List, [], ◌∷◌, ◌++◌}
 use Rattle.vss_lists.specs.Breaks.{HoldsOfEach}
 use Rattle.vss_lists.specs.Orders.{OrderRule, IsFirstBroken, rule_of_each}
 use Rattle.rail_net.specs.Parts.{AreNamed, HasFewItems}
-use Rattle.rail_net.specs.Rules.{HasNewName, KnowsTracks, KnowsNodes, ListsTracks, HasDegree, HasTipHere, HasPairsHere, IsNoLoop, IsListed, IsListedOnce, HasGoodLength, HasGoodLimit}
+use Rattle.rail_net.specs.Rules.{HasNewName, KnowsTracks, KnowsNodes, ListsTracks, HasDegree, HasTipHere, HasPairsHere, IsNoLoop, IsOfSomeSection, IsListedOnce, HasGoodLength, HasGoodLimit}
 use Rattle.rail_net.specs.Sections.{IsWholeNode, IsConnectedSection}
 use Rattle.rail_net.specs.Borders.{IsKnownBorder, IsGoodBorder}
 use Rattle.rail_net.specs.declared.parts.NetParts.{NetParts}
@@ -56,7 +56,7 @@ node_rules p =
 -- tracks are parted into sections
 abbrev pub section_rules : NetParts → Rules
 section_rules p =
-    rule_of_each (broken_by_item TrackInNoSection Tracks) (IsListed p) p.tracks ∷
+    rule_of_each (broken_by_item TrackInNoSection Tracks) (IsOfSomeSection p) p.tracks ∷
     rule_of_each (broken_by_item TrackInTwoSections Tracks) (IsListedOnce p) p.tracks ∷
     rule_of_each (broken_by_item SplitSection Nodes) (IsWholeNode p) p.nodes ∷
     rule_of_each (broken_by_item SectionApart Sections) (IsConnectedSection p) p.sections ∷ []
@@ -93,7 +93,7 @@ pub record IsNet (p : NetParts) : Type 0 where
   pub tips : HoldsOfEach (HasTipHere p) p.nodes
   pub pairs : HoldsOfEach (HasPairsHere p) p.nodes
   pub no_loops : HoldsOfEach (IsNoLoop p) p.tracks
-  pub listed : HoldsOfEach (IsListed p) p.tracks
+  pub listed : HoldsOfEach (IsOfSomeSection p) p.tracks
   pub once : HoldsOfEach (IsListedOnce p) p.tracks
   pub whole : HoldsOfEach (IsWholeNode p) p.nodes
   pub connected : HoldsOfEach (IsConnectedSection p) p.sections

@@ -115,8 +115,8 @@ abbrev pub IsNoLoop : NetParts → ℕ → TrackPart → Type 0
 IsNoLoop p place t = t.from ≢ t.to
 
 -- some section lists the track
-unfoldable pub IsListed : NetParts → ℕ → TrackPart → Type 0
-IsListed p place t = (section : ℕ) × Lists p section t.name
+unfoldable pub IsOfSomeSection : NetParts → ℕ → TrackPart → Type 0
+IsOfSomeSection p place t = (section : ℕ) × Lists p section t.name
 
 -- the sections' lists name the track at most once
 abbrev pub IsListedOnce : NetParts → ℕ → TrackPart → Type 0

@@ -34,9 +34,9 @@ pub record Adjoin (p : NetParts) (track other : ℕ) : Type 0 where
   pub too : EndsAt p node other
 
 -- from each track of the section each other is reached over shared nodes
-unfoldable pub IsConnected : NetParts → ℕ → Type 0
-IsConnected p section =
+unfoldable pub HangsTogether : NetParts → ℕ → Type 0
+HangsTogether p section =
     (track other : ℕ) → IsTrackOfSection p section track → IsTrackOfSection p section other → Reaches (Adjoin p) track other
 
 abbrev pub IsConnectedSection : NetParts → ℕ → GroupPart → Type 0
-IsConnectedSection p place s = IsConnected p place
+IsConnectedSection p place s = HangsTogether p place

@@ -3,7 +3,7 @@ use Rattle.std.specs.Prelude.{◌≡◌, ◌↔◌, ◌+◌, ◌++◌, ℕ, Bool
 use Rattle.node_groups.specs.declared.segments.Segment.{Segment}
 use Rattle.rail_net.specs.Parts.{IsNode, IsTrack, IsTrackOfSection, Stated, stated_by, listings, node_names, track_names, station_names}
 use Rattle.rail_net.specs.Rules.{begin_count, end_count}
-use Rattle.rail_net.specs.Sections.{IsOfOneSection, IsConnected}
+use Rattle.rail_net.specs.Sections.{IsOfOneSection, HangsTogether}
 use Rattle.rail_net.specs.Borders.{IsFree}
 use Rattle.rail_net.specs.Refusals.{HasNewNodes, HasNewTracks}
 use Rattle.rail_net.specs.declared.entries.Entry.{Entry}
@@ -120,7 +120,7 @@ pub record AreBars (p : NetParts) (marks : List Bool) : Type 0 where
 pub record AreMarkedApart (p : NetParts) (marks : List Bool) : Type 0 where
   pub len : length marks ≡ length p.sections
   pub at_section : (section : ℕ) (mark : Bool) → slice_get marks section ≡ Some mark
-      → (mark ≡ false) ↔ IsConnected p section
+      → (mark ≡ false) ↔ HangsTogether p section
 
 -- what tells whether borders stand well
 pub record AreStands (p : NetParts) (index : NetNames) (split barred : List Bool) : Type 0 where

@@ -1,6 +1,6 @@
 //! What is counted and marked of nodes, tracks and sections before the rules are tested.
 
-ghost use Rattle.std.specs.Prelude.{◌≡◌, ◌<◌, ◌^◌, ◌++◌, map, length, IfOk};
+ghost use Rattle.std.specs.Prelude.{◌≡◌, ◌++◌, map, length, IfOk};
 ghost use Rattle.std.specs.List.{range_with_len};
 ghost use Rattle.vss_lists.specs.Breaks.{HoldsOfEach};
 ghost use Rattle.rail_net.specs.Parts.{HasFewItems};

@@ -1,7 +1,7 @@
 //! Names with their numbers.
 
-ghost use Rattle.std.specs.Prelude.{◌≡◌, ◌<◌, ◌^◌, ◌≢◌, ℕ, length, map, string_bytes, slice_get, Some, Contains, IfOk, IfErr, MatchOption, MatchResult};
-ghost use Rattle.vss_lists.specs.Breaks.{BreaksFirstAt, HoldsOfEach};
+ghost use Rattle.std.specs.Prelude.{◌≡◌, ◌<◌, ◌^◌, ℕ, length, map, string_bytes, slice_get, Some, Contains, IfOk, IfErr, MatchOption};
+ghost use Rattle.vss_lists.specs.Breaks.{HoldsOfEach};
 ghost use Rattle.rail_net.specs.Rules.{HasNewName};
 ghost use Rattle.rail_net.specs.Breaks.{IsBreak};
 

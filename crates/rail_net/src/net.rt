@@ -1,6 +1,6 @@
 //! Networks: parts that keep every rule.
 
-ghost use Rattle.std.specs.Prelude.{◌≡◌, ◌<◌, ◌↔◌, ◌⊎◌, ℕ, length, IsTrue, IfErr, IfOk, MatchOption};
+ghost use Rattle.std.specs.Prelude.{◌≡◌, ◌<◌, ◌↔◌, ℕ, length, IsTrue, IfErr, IfOk, MatchOption};
 ghost use Rattle.rail_net.specs.Parts.{AreNamed, HasFewItems, IsNode, IsTrackOfSection, IsStation, IsTrack};
 ghost use Rattle.rail_net.specs.Passages.{ArePair, HasPassage, IsAtNode, LeadsOver};
 ghost use Rattle.rail_net.specs.Refusals.{IsNet, Refuses, net_rules};

@@ -6,7 +6,7 @@ ghost use Rattle.rail_net.specs.Breaks.{IsBreak};
 ghost use Rattle.rail_net.specs.Entries.{AreValues};
 ghost use Rattle.rail_net.specs.Parts.{HasFewItems};
 ghost use Rattle.rail_net.specs.Refusals.{HasNewTracks};
-ghost use Rattle.rail_net.specs.Rules.{AreKnown, IsListed, ListsTracks};
+ghost use Rattle.rail_net.specs.Rules.{AreKnown, IsOfSomeSection, ListsTracks};
 ghost use Rattle.rail_net.specs.Tables.{AddsListings, AreHomes, AreListings, AreNamesOf};
 
 use crate::entries::{Entry, values};
@@ -75,8 +75,8 @@ pub(crate) fn homes_of(
     requires names { HasNewTracks parts.now }
     requires listings { AreListings parts.now listings.now }
     ensures homes { IfOk result (λ homes. AreHomes parts.now homes.items) }
-    ensures listed { IfOk result (λ _. HoldsOfEach (IsListed parts.now) parts.now.tracks) }
-    ensures unlisted { IfErr result (IsBreak (IsListed parts.now) parts.now.tracks) }
+    ensures listed { IfOk result (λ _. HoldsOfEach (IsOfSomeSection parts.now) parts.now.tracks) }
+    ensures unlisted { IfErr result (IsBreak (IsOfSomeSection parts.now) parts.now.tracks) }
 {
     match values(alloc, parts.tracks.len(), listings) {
         Ok(found) => sections_of(alloc, parts, listings, &found),
@@ -96,8 +96,8 @@ fn sections_of(
     requires len { length found.now ≡ length parts.now.tracks }
     requires found { AreValues listings.now found.now }
     ensures homes { IfOk result (λ homes. AreHomes parts.now homes.items) }
-    ensures listed { IfOk result (λ _. HoldsOfEach (IsListed parts.now) parts.now.tracks) }
-    ensures unlisted { IfErr result (IsBreak (IsListed parts.now) parts.now.tracks) }
+    ensures listed { IfOk result (λ _. HoldsOfEach (IsOfSomeSection parts.now) parts.now.tracks) }
+    ensures unlisted { IfErr result (IsBreak (IsOfSomeSection parts.now) parts.now.tracks) }
 {
     let Ok(mut homes) = Vec::with_capacity(alloc, found.len()) else {
         return Err(Break::Memory);

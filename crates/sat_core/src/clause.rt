@@ -1,6 +1,6 @@
 //! The test of what makes literals a clause.
 
-ghost use Rattle.std.specs.Prelude.{◌≡◌, ◌≢◌, ◌↔◌, ◌≤◌, IsTrue, All};
+ghost use Rattle.std.specs.Prelude.{◌≢◌, ◌↔◌, IsTrue, All};
 ghost use Rattle.sat_core.specs.Clauses.{IsOver, IsClause};
 
 use crate::literal::Lit;

@@ -9,7 +9,7 @@ use Rattle.sat_core.specs.declared.literal.Lit.{Lit}
 use Rattle.sat_core.specs.Hints.{is_same, is_known}
 use Rattle.sat_core.proofs.LiteralLaws.{is_same-true, is_same-refl}
 use Rattle.search_trail.specs.declared.entry.Entry.{Entry}
-use Rattle.search_trail.specs.Trails.{TrailParts, IsTrail, IsCut, known_of, up_to}
+use Rattle.search_trail.specs.Trails.{TrailParts, IsTrail, IsCutBack, known_of, up_to}
 use Rattle.sat_core.proofs.OpenLaws.{true_is_not_false}
 use Rattle.search_trail.proofs.TrailLaws.{known-at_entry}
 
@@ -49,7 +49,7 @@ up_to-push n entries e lit found =
     subst (λ l. is_known (up_to n (entries ++ e ∷ [])) l ≡ true) (ap (λ x. x.lit) same ∙ (at.2 d).0) here
 
 -- going back keeps what was true up to that level
-pub up_to-cut : (level n : ℕ) (old new : List Entry) (lit : Lit) → IsCut level old new → n ≤ level → is_known (up_to n old) lit ≡ true → is_known (up_to n new) lit ≡ true
+pub up_to-cut : (level n : ℕ) (old new : List Entry) (lit : Lit) → IsCutBack level old new → n ≤ level → is_known (up_to n old) lit ≡ true → is_known (up_to n new) lit ≡ true
 up_to-cut level n old new lit cut le found =
     let at = up_to-from n old lit found in
     let d : Entry = record { lit = lit; reason = None; level = 0 } in
@@ -98,7 +98,7 @@ up_to-above n entries e above =
     let none : filter (λ (x : Entry). nat_le x.level n) (e ∷ []) ≡ [] = filter_none_above n (e ∷ []) (λ k d within. elim (cases_eq k 0) [ inl here ↦ subst (λ j. n < (get_or (e ∷ []) j d).level) (sym here) above | inr apart ↦ absurd (omega arith) ]) in
     ap known_of (filter-append (λ (x : Entry). nat_le x.level n) entries (e ∷ []) ∙ (ap (λ ys. filter (λ (x : Entry). nat_le x.level n) entries ++ ys) none ∙ append-nil (filter (λ (x : Entry). nat_le x.level n) entries)))
 
-pub up_to-same : (level n : ℕ) (old new : List Entry) → IsCut level old new → n ≤ level → up_to n new ≡ up_to n old
+pub up_to-same : (level n : ℕ) (old new : List Entry) → IsCutBack level old new → n ≤ level → up_to n new ≡ up_to n old
 up_to-same level n old new cut le =
     let test : Entry → Bool = λ x. nat_le x.level n in
     let none : filter test (drop cut.size old) ≡ [] = filter_none_above n (drop cut.size old) (λ k d within.

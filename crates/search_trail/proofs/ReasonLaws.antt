@@ -8,7 +8,7 @@ use Rattle.sat_core.specs.declared.literal.ClauseId.{ClauseId}
 use Rattle.sat_core.specs.Hints.{NumberedClause, clause_of}
 use Rattle.search_trail.specs.declared.entry.Entry.{Entry}
 use Rattle.sat_core.specs.Derivation.{numbered_from}
-use Rattle.search_trail.specs.Trails.{IsCut, known_of}
+use Rattle.search_trail.specs.Trails.{IsCutBack, known_of}
 use Rattle.search_trail.specs.Reasons.{ReasonFits, AreReasons}
 
 -- different numbers don't test equal
@@ -39,7 +39,7 @@ AreReasons-push live entries e all new k d within = elim (cases_eq k (length ent
       rw (get_or_append_left entries (e ∷ []) d k within', take-append-le k entries (e ∷ []) (omega arith)) (all k d within')
 ]
 
-pub AreReasons-cut : (live : List NumberedClause) (level : ℕ) (old new : List Entry) → IsCut level old new → AreReasons live old → AreReasons live new
+pub AreReasons-cut : (live : List NumberedClause) (level : ℕ) (old new : List Entry) → IsCutBack level old new → AreReasons live old → AreReasons live new
 AreReasons-cut live level old new cut all k d within =
     let long : length new ≡ cut.size = ap length cut.front ∙ length-take-le cut.size old cut.within in
     let same : get_or new k d ≡ get_or old k d = ap (λ es. get_or es k d) cut.front ∙ get_or-take cut.size old k d (omega arith) in

@@ -50,7 +50,7 @@ pub record IsTrail (t : TrailParts) : Type 0 where
   pub no_level_missing : (level : ℕ) → 1 ≤ level → level ≤ t.present → Any (λ e. e.level ≡ level) t.entries
 
 -- what going back to a level leaves: the entries up to that level, which stand at the front
-pub record IsCut (level : ℕ) (old new : List Entry) : Type 0 where
+pub record IsCutBack (level : ℕ) (old new : List Entry) : Type 0 where
   pub size : ℕ
   pub front : new ≡ take size old
   pub within : size ≤ length old

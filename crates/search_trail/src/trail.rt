@@ -1,9 +1,9 @@
 //! The trail, and its calls.
-ghost use Rattle.std.specs.Prelude.{◌≡◌, ◌+◌, ◌-◌, ◌*◌, ◌<◌, ◌≤◌, [], ◌∷◌, ◌++◌, length, IfOk, IfSome, IfNone, Any, All, slice_index_or, min, ◌≢◌, None, MatchOption};
+ghost use Rattle.std.specs.Prelude.{◌≡◌, ◌+◌, ◌-◌, ◌*◌, ◌<◌, ◌≤◌, [], ◌∷◌, ◌++◌, length, IfOk, Any, All, slice_index_or, min, ◌≢◌, None, MatchOption};
 ghost use Rattle.sat_core.specs.Clauses.{IsOver};
 ghost use Rattle.sat_core.specs.Fresh.{IsOpen};
 ghost use Rattle.sat_core.specs.Hints.{is_known};
-ghost use Rattle.search_trail.specs.Trails.{known_of, TruthOf, IsTrail, IsCut, assigned, decided};
+ghost use Rattle.search_trail.specs.Trails.{known_of, TruthOf, IsTrail, IsCutBack, assigned, decided};
 ghost use Rattle.search_trail.specs.declared.entry.Entry.{Entry};
 
 use crate::entry::{Entry, Truth};
@@ -187,7 +187,7 @@ impl Trail {
     pub fn back_to(&mut self, level: u32)
         requires reached { level ≤ self.old.present }
         ensures vars { self.new.vars ≡ self.old.vars }
-        ensures cut { IsCut level self.old.entries self.new.entries }
+        ensures cut { IsCutBack level self.old.entries self.new.entries }
         ensures read { self.new.read ≡ min self.old.read (length self.new.entries) }
         ensures now { self.new.present ≡ level }
     {

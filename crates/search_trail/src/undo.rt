@@ -1,8 +1,8 @@
 //! How marks are undone.
-ghost use Rattle.std.specs.Prelude.{◌≡◌, ◌≤◌, ◌<◌, ℕ, ◌-◌, ◌+◌, ◌*◌, cond, take, length, All, AllPairs, slice_index_or, ◌≢◌};
+ghost use Rattle.std.specs.Prelude.{◌≤◌, ◌<◌, ℕ, ◌-◌, take, length, All, AllPairs, slice_index_or, ◌≢◌};
 ghost use Rattle.sat_core.specs.Clauses.{IsOver};
 ghost use Rattle.search_trail.specs.declared.entry.Entry.{Entry};
-ghost use Rattle.sat_core.specs.Marks.{mark_place, AreMarked};
+ghost use Rattle.sat_core.specs.Marks.{AreMarked};
 ghost use Rattle.search_trail.specs.Trails.{known_of};
 
 use crate::entry::Entry;

@@ -9,7 +9,7 @@ use Rattle.sat_core.specs.Clauses.{IsTrueIn, SatisfiesAll}
 use Rattle.sat_core.specs.Derivation.{DerivedStep, adds, drops}
 use Rattle.sat_core.specs.Search.{Event, gives, derives, search_of, IsLearned, IsDropped, IsNext, AreNext, log_of, units_of, adds_in}
 use Rattle.sat_core.proofs.SearchLaws.{AreNext-append, adds_in-append, adds_searched, units_searched}
-use Rattle.solver_face.specs.Solving.{Solving, IsSound, search_now, taken, ShowsSolution, BeginsWithNoDrop, Searched}
+use Rattle.solver_face.specs.Solving.{Solving, IsSound, search_now, numbers_used, ShowsSolution, BeginsWithNoDrop, Searched}
 
 -- nothing is derived yet
 pub searched_none : (s : Solving) (had : ℕ) → IsSound s → Searched s s had had
@@ -97,8 +97,8 @@ pub search_is : (s : Solving) (vars : ℕ) (formula : List (List Lit)) → IsSou
 search_is s vars formula sound same same_formula =
     subst (λ (v : ℕ). AreNext (search_of v formula) s.events) same (subst (λ (f : List (List Lit)). AreNext (search_of s.vars f) s.events) same_formula sound.events)
 
-pub taken_at_first : (s : Solving) (formula : List (List Lit)) → s.formula ≡ formula → s.events ≡ [] → taken s ≡ length formula
-taken_at_first s formula same none =
+pub numbers_used_at_first : (s : Solving) (formula : List (List Lit)) → s.formula ≡ formula → s.events ≡ [] → numbers_used s ≡ length formula
+numbers_used_at_first s formula same none =
     let units : length (units_of s.events) ≡ 0 = rw none refl in
     let adds : adds_in (log_of s.events) ≡ 0 = rw none refl in
     let lengths : length s.formula ≡ length formula = ap length same in
@@ -115,8 +115,8 @@ solution_of s formula front lit (Some values) same units shows = (
 )
 
 -- what a search takes of the numbers is what it spends of the budget
-pub taken_grows : (before now : Solving) (had left : ℕ) → Searched before now had left → taken now + left ≡ taken before + had
-taken_grows before now had left searched =
+pub numbers_used_grows : (before now : Solving) (had left : ℕ) → Searched before now had left → numbers_used now + left ≡ numbers_used before + had
+numbers_used_grows before now had left searched =
     let grew : adds_in (log_of now.events) + left ≡ adds_in (log_of before.events) + had = conflicts_grow before now had left searched in
     let units : length (units_of now.events) ≡ length (units_of before.events) = ap (λ e. length (units_of e)) searched.grew ∙ ap length (units_searched before.events searched.steps) in
     let formula : length now.formula ≡ length before.formula = ap length searched.same_formula in

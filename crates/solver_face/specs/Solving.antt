@@ -26,9 +26,9 @@ pub record IsSound (s : Solving) : Type 0 where
 abbrev pub search_now : Solving → Search
 search_now s = after_events (search_of s.vars s.formula) s.events
 
--- how many numbers of clauses are taken
-abbrev pub taken : Solving → ℕ
-taken s = length s.formula + length (units_of s.events) + adds_in (log_of s.events)
+-- how many clause numbers are in use
+abbrev pub numbers_used : Solving → ℕ
+numbers_used s = length s.formula + length (units_of s.events) + adds_in (log_of s.events)
 
 -- none of the steps adds the empty clause
 abbrev pub AddNoEmptyClause : List DerivedStep → Type 0

@@ -3,7 +3,7 @@ ghost use Rattle.std.specs.Prelude.{◌≡◌, ◌≢◌, ◌+◌, ◌-◌, ◌^
 ghost use Rattle.derivation_log.specs.Steps.{derived_steps};
 ghost use Rattle.sat_core.specs.Clauses.{IsOver};
 ghost use Rattle.sat_core.specs.Search.{gives, log_of, units_of, adds_in};
-ghost use Rattle.solver_face.specs.Solving.{Solving, IsSound, taken, IsRefuted, Searched, IsAnswer};
+ghost use Rattle.solver_face.specs.Solving.{Solving, IsSound, numbers_used, IsRefuted, Searched, IsAnswer};
 
 use crate::answer::Answer;
 use crate::budget::Budget;
@@ -32,13 +32,13 @@ pub trait Solver: Sized + Drop {
     /// that was found stay as they were.
     fn add_unit(&mut self, lit: Lit) -> Result<(), AllocError>
         requires over { IsOver (solving self.old).vars lit }
-        requires numbered { taken (solving self.old) < 2 ^ 32 - 1 }
+        requires numbered { numbers_used (solving self.old) < 2 ^ 32 - 1 }
         ensures vars { (solving self.new).vars ≡ (solving self.old).vars }
         ensures formula { (solving self.new).formula ≡ (solving self.old).formula }
         ensures found { (solving self.new).found ≡ (solving self.old).found }
         ensures ok { OnOk result ((solving self.new).events ≡ (solving self.old).events ++ gives lit ∷ []) }
         ensures err { OnErr result ((solving self.new).events ≡ (solving self.old).events) }
-        ensures numbers { OnOk result (taken (solving self.new) ≡ taken (solving self.old) + 1) }
+        ensures numbers { OnOk result (numbers_used (solving self.new) ≡ numbers_used (solving self.old) + 1) }
         ensures units { OnOk result (units_of (solving self.new).events ≡ units_of (solving self.old).events ++ lit ∷ []) }
         ensures log { log_of (solving self.new).events ≡ log_of (solving self.old).events }
         ensures sound { IsSound (solving self.new) }
@@ -54,9 +54,9 @@ pub trait Solver: Sized + Drop {
         steps: &mut Steps<L>,
     ) -> Result<Answer, AllocError>
         requires budget { 0 < budget.old }
-        requires numbered { taken (solving self.old) + budget.old < 2 ^ 32 }
+        requires numbered { numbers_used (solving self.old) + budget.old < 2 ^ 32 }
         ensures searched { Searched (solving self.old) (solving self.new) budget.old budget.new }
-        ensures numbers { taken (solving self.new) + budget.new ≡ taken (solving self.old) + budget.old }
+        ensures numbers { numbers_used (solving self.new) + budget.new ≡ numbers_used (solving self.old) + budget.old }
         ensures units { units_of (solving self.new).events ≡ units_of (solving self.old).events }
         ensures answer { IfOk result (IsAnswer (solving self.new) budget.new) }
         ensures stays_refuted { IsRefuted (solving self.old) → IfOk result (λ answer. answer ≡ Answer.Unsat) }

@@ -1,6 +1,6 @@
 -- What follows each directed cell, gathered from the joins one by one.
-use Rattle.std.proofs.Common.{◌≡◌, ◌≢◌, ◌<◌, ◌≤◌, ◌+◌, ◌-◌, ◌*◌, inl, inr, ℕ, true, false, List, [], ◌∷◌, ◌++◌, length, take, get_or, ap, sym, ◌∙◌, refl, subst, arith}
-use Rattle.std.specs.Prelude.{All, AllPairs, Any, Contains, ◌⊎◌, Some, slice_get, slice_set}
+use Rattle.std.proofs.Common.{◌≡◌, ◌≢◌, ◌<◌, ◌≤◌, ◌-◌, ◌*◌, inl, inr, ℕ, true, false, List, [], ◌∷◌, ◌++◌, length, take, get_or, ap, sym, ◌∙◌, refl, subst, arith}
+use Rattle.std.specs.Prelude.{All, Any, Contains, ◌⊎◌, Some, slice_set}
 use Rattle.std.specs.List.Sorted.{IsNonDecreasingBy, IsPermutation}
 use Rattle.std.proofs.lemmas.List.Sorted.{Contains-permutation, IsPermutation-sym}
 use Rattle.std.proofs.lemmas.Bool.{cases_Bool, cases_eq, false≢true}
@@ -9,7 +9,7 @@ use Rattle.std.proofs.lemmas.List.Elements.{Contains-push, Contains-push_cases, 
 use Rattle.std.proofs.lemmas.List.Quantifiers.{Any-push, all_pairs_push}
 use Rattle.std.proofs.lemmas.Option.{slice_get-get_or, slice_get_within}
 use Rattle.cell_net.specs.Rules.{IsInstance, IsNodeOf}
-use Rattle.cell_net.specs.Space.{Follows, IsCell, Pairs, head_of, opposite, tail_of}
+use Rattle.cell_net.specs.Space.{Follows, Pairs, head_of, opposite, tail_of}
 use Rattle.cell_net.specs.declared.cells.CellEnd.{CellEnd}
 use Rattle.cell_net.specs.declared.cells.DirCell.{DirCell}
 use Rattle.cell_net.specs.declared.cells.End.{End}

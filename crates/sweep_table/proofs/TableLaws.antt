@@ -1,14 +1,14 @@
 -- The table of all sweeps in order is the table of the train.
 use Rattle.std.proofs.Common.{◌≡◌, ◌<◌, ◌≤◌, ◌+◌, ◌-◌, inl, inr, ℕ, true, false, List, [], length, take, drop, map, get_or, ap, sym, ◌∙◌, refl, subst, arith}
-use Rattle.std.specs.Prelude.{AllPairs, Contains, ◌↔◌, Option, Some, None, slice_get, slice_index, nat_eq}
+use Rattle.std.specs.Prelude.{AllPairs, Contains, ◌↔◌, Some, slice_get, slice_index, nat_eq}
 use Rattle.std.specs.List.{list_all}
 use Rattle.std.proofs.lemmas.List.{get_or_past}
 use Rattle.std.proofs.lemmas.List.Sums.{AllPass-from_list_all, list_all-from_AllPass}
-use Rattle.std.proofs.lemmas.Bool.{cases_lt, cases_order, eqb-true, eq-eqb, and_parts, and_from, false≢true}
+use Rattle.std.proofs.lemmas.Bool.{cases_lt, cases_order, eqb-true, eq-eqb, and_parts, and_from}
 use Rattle.std.proofs.lemmas.List.{get_or-map, length-map, length-drop, length-take-le, get_or-take, get_or-drop}
 use Rattle.std.proofs.lemmas.List.Elements.{Contains-get_or, All-map}
 use Rattle.std.proofs.lemmas.List.Folds.{Any-from_list_any, list_any-from_Any}
-use Rattle.std.proofs.lemmas.Option.{slice_get-get_or, get_or_from_slice_get, same_Some, none-some}
+use Rattle.std.proofs.lemmas.Option.{slice_get-get_or, get_or_from_slice_get, same_Some}
 use Rattle.cell_net.specs.Space.{IsCell}
 use Rattle.cell_net.specs.Runs.{IsSweep, IsCellOf, Continues}
 use Rattle.cell_net.specs.declared.ids.CellId.{CellId}
@@ -16,10 +16,10 @@ use Rattle.cell_net.specs.declared.ids.StationId.{StationId}
 use Rattle.cell_net.specs.declared.cells.DirCell.{DirCell}
 use Rattle.cell_net.specs.declared.trains.TrainSpec.{TrainSpec}
 use Rattle.cell_net.specs.declared.parts.InstanceParts.{InstanceParts}
-use Rattle.sweep_table.specs.Order.{directed_number, IsSweepBefore}
+use Rattle.sweep_table.specs.Order.{IsSweepBefore}
 use Rattle.sweep_table.specs.Ends.{HaveEnds, ArePlaces, first_cells, last_cells}
 use Rattle.sweep_table.specs.Groups.{AreGroups}
-use Rattle.sweep_table.specs.Parts.{SweepParts, group_of, is_directed, begins_with, ends_with, has_station_cell, stands_within, cells_of_station, table_of}
+use Rattle.sweep_table.specs.Parts.{SweepParts, group_of, begins_with, ends_with, has_station_cell, stands_within, cells_of_station, table_of}
 use Rattle.sweep_table.specs.Sweeps.{AreSweepsOf, IsTableOf, IsStanding}
 use Rattle.sweep_table.specs.Tables.{Table, IsTable, Rises, AreItems, cells_of, next_of, prev_of}
 use Rattle.sweep_table.specs.declared.ids.SweepId.{SweepId}

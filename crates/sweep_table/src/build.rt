@@ -1,7 +1,6 @@
 //! How the table of a train's sweeps is made.
 ghost use Rattle.std.specs.Prelude.{◌≡◌, ◌<◌, ◌≤◌, IfErr, IfOk, Some, length, slice_get};
 ghost use Rattle.cell_net.specs.declared.trains.TrainSpec.{TrainSpec};
-ghost use Rattle.sweep_table.specs.Ends.{HaveEnds};
 ghost use Rattle.sweep_table.specs.Parts.{IsOfTrain, table_of};
 ghost use Rattle.sweep_table.specs.Tables.{IsTable};
 ghost use Rattle.sweep_table.specs.Sweeps.{AreSweepsOf, IsTableOf, IsTableRefusal};

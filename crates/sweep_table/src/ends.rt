@@ -1,5 +1,5 @@
 //! The first and the last cells of each sweep, as many as the train is long.
-ghost use Rattle.std.specs.Prelude.{◌≡◌, ◌<◌, IfOk, length};
+ghost use Rattle.std.specs.Prelude.{IfOk};
 ghost use Rattle.sweep_table.specs.Ends.{ArePlaces, HaveEnds, first_cells, last_cells};
 
 use crate::order::place_of;

@@ -1,6 +1,6 @@
 //! Items grouped by their keys.
 ghost use Rattle.std.specs.Prelude.{◌≡◌, ◌<◌, ◌^◌, ◌++◌, ◌∷◌, [], List, All, IfOk, OnOk, length, slice_index_or, slice_set};
-ghost use Rattle.sweep_table.specs.Groups.{AreGroups, AreGroupsBelow};
+ghost use Rattle.sweep_table.specs.Groups.{AreGroups};
 ghost use Rattle.sweep_table.specs.declared.ids.SweepId.{SweepId};
 
 use crate::ids::SweepId;

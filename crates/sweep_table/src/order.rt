@@ -1,5 +1,5 @@
 //! The order of sweeps, and the place of one among them.
-ghost use Rattle.std.specs.Prelude.{◌≡◌, ◌≤◌, ◌<◌, ◌↔◌, AllPairs, Contains, IsTrue, Some, length, slice_get};
+ghost use Rattle.std.specs.Prelude.{◌≡◌, ◌<◌, ◌↔◌, AllPairs, Contains, IsTrue, Some, length, slice_get};
 ghost use Rattle.sweep_table.specs.Order.{IsSweepBefore, IsLower, directed_number, end_digit};
 
 use cell_net::{DirCell, End};

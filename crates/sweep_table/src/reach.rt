@@ -1,5 +1,5 @@
 //! How far paths can go on from each directed cell: none grows where it can't become long enough.
-ghost use Rattle.std.specs.Prelude.{ℕ, ◌≡◌, ◌≤◌, ◌<◌, ◌+◌, ◌*◌, All, IfOk, length, slice_set};
+ghost use Rattle.std.specs.Prelude.{ℕ, ◌≤◌, ◌<◌, ◌+◌, ◌*◌, All, IfOk, length};
 ghost use Rattle.cell_net.specs.Space.{IsCell};
 ghost use Rattle.sweep_table.specs.Growing.{AreAfter};
 ghost use Rattle.sweep_table.specs.Order.{directed_number};

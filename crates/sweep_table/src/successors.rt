@@ -1,5 +1,5 @@
 //! For each directed cell, those that follow it: gathered from the joins.
-ghost use Rattle.std.specs.Prelude.{◌≡◌, ◌<◌, ◌*◌, ◌++◌, ◌∷◌, [], true, false, All, IfOk, IsPermutation, List, OnOk, length, slice_index_or, slice_set};
+ghost use Rattle.std.specs.Prelude.{◌≡◌, ◌<◌, ◌*◌, ◌++◌, ◌∷◌, [], true, false, All, IfOk, IsPermutation, OnOk, length, slice_index_or, slice_set};
 ghost use Rattle.std.specs.List.Sorted.{IsNonDecreasingBy};
 ghost use Rattle.cell_net.specs.Space.{opposite};
 ghost use Rattle.sweep_table.specs.Growing.{AreAfter, lowward, highward};

@@ -1,10 +1,8 @@
 //! The table of one train's sweeps.
-ghost use Rattle.std.specs.Prelude.{◌≡◌, ◌<◌, IfErr, IfOk, Some, length, slice_get, slice_index_or};
+ghost use Rattle.std.specs.Prelude.{◌≡◌, Some, length};
 ghost use Rattle.std.specs.List.{list_all};
-ghost use Rattle.cell_net.specs.declared.trains.TrainSpec.{TrainSpec};
 ghost use Rattle.sweep_table.specs.Tables.{IsTable};
 ghost use Rattle.sweep_table.specs.Parts.{begins_with, ends_with, has_station_cell, stands_within, table_of};
-ghost use Rattle.sweep_table.specs.Sweeps.{IsTableOf, IsTableRefusal};
 
 use crate::ids::SweepId;
 use crate::moves::Moves;

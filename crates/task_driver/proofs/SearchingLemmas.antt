@@ -16,8 +16,8 @@ use Rattle.cell_net.specs.declared.parts.InstanceParts.{InstanceParts}
 use Rattle.cell_net.specs.declared.plans.Plan.{Plan}
 use Rattle.clause_encoder.specs.Maps.{MapParts}
 use Rattle.clause_encoder.specs.declared.task.Task.TheVariants.{Free}
-use Rattle.solver_face.specs.Solving.{Solving, IsSolution, IsSound, Searched, ShowsSolution, taken}
-use Rattle.solver_face.proofs.SolvingLaws.{taken_at_first}
+use Rattle.solver_face.specs.Solving.{Solving, IsSolution, IsSound, Searched, ShowsSolution, numbers_used}
+use Rattle.solver_face.proofs.SolvingLaws.{numbers_used_at_first}
 use Rattle.task_driver.specs.BoundUnits.{AreUnitsOf, bounds_in}
 use Rattle.task_driver.specs.Encodings.{IsBoundEncoding}
 use Rattle.task_driver.specs.Questions.{Formulas}
@@ -55,7 +55,7 @@ units_counted f p m budget s left units best is =
 -- a design was found, and the unit of one border less was given
 pub given_on : (f : Formulas) (p : InstanceParts) (m : MapParts) (budget : ℕ) (before now : Solving) (left : ℕ) (units : List BoundUnit) (best : Option (List CandidateId × Plan)) (u : BoundUnit) (layout : List CandidateId) (plan : Plan)
     → IsSearching f p m budget before left units best → now.vars ≡ before.vars → now.formula ≡ before.formula → now.events ≡ before.events ++ gives (not_at_least_lit m.first_of_count m.candidates (u.most + 1)) ∷ [] → IsSound now
-    → u.id.0 ≡ taken before + 1 → u.most < last_number (length p.candidates) (bounds_in units) → u.most < length p.candidates → length p.kept ≤ u.most → length layout ≡ u.most + 1 → IsLawful p layout plan
+    → u.id.0 ≡ numbers_used before + 1 → u.most < last_number (length p.candidates) (bounds_in units) → u.most < length p.candidates → length p.kept ≤ u.most → length layout ≡ u.most + 1 → IsLawful p layout plan
     → IsSearching f p m budget now left (units ++ u ∷ []) (Some (layout, plan))
 given_on f p m budget before now left units best u layout plan was vars formula events sound number below within kept count lawful =
     let given : now.events ≡ before.events ++ gives (f.unit u.most) ∷ [] = events ∙ ap (λ (l : Lit). before.events ++ gives l ∷ []) (sym (was.counter.unit u.most)) in
@@ -78,7 +78,7 @@ pub record IsOn (p : InstanceParts) (parts : FormulaParts) (m : MapParts) (budge
   pub most_is : most ≡ last_number (length p.candidates) (bounds_in units)
   pub some_left : 0 < left
   pub count : clauses ≡ length s.formula
-  pub numbers : taken s + left + most ≤ 1008000000 + length p.candidates
+  pub numbers : numbers_used s + left + most ≤ 1008000000 + length p.candidates
 
 pub begin_on : (p : InstanceParts) (parts : FormulaParts) (m : MapParts) (budget : ℕ) (s : Solving) (clauses most : ℕ) → (e : IsBoundEncoding p (AtMost (length p.candidates)) parts m) → 0 < budget → budget ≤ 1000000000
     → s.vars ≡ parts.vars → s.formula ≡ parts.clauses → s.events ≡ [] → clauses ≡ length parts.clauses → most ≡ length p.candidates → IsOn p parts m budget s budget [] None clauses most
@@ -91,7 +91,7 @@ begin_on p parts m budget s clauses most e some few vars formula none count most
       most_is = most_is;
       some_left = some;
       count = count ∙ ap length (sym formula);
-      numbers = omega (arith, taken_at_first s parts.clauses formula none, few_clauses p (AtMost (length p.candidates)) parts m e, most_is);
+      numbers = omega (arith, numbers_used_at_first s parts.clauses formula none, few_clauses p (AtMost (length p.candidates)) parts m e, most_is);
     }
 
 -- what the solver found tells a layout of no more borders than the last bound allows, and no fewer than are kept
@@ -119,9 +119,9 @@ layout_on p parts m budget before now had left units best clauses most values on
 
 -- after a design the unit of one border less was given, under the next number
 pub next_on : (p : InstanceParts) (parts : FormulaParts) (m : MapParts) (budget : ℕ) (before now later : Solving) (had left : ℕ) (units : List BoundUnit) (best : Option (List CandidateId × Plan)) (clauses most k : ℕ) (u : BoundUnit) (layout : List CandidateId) (plan : Plan)
-    → IsOn p parts m budget before had units best clauses most → Searched before now had left → 0 < left → taken now + left ≡ taken before + had
-    → later.vars ≡ now.vars → later.formula ≡ now.formula → later.events ≡ now.events ++ gives (not_at_least_lit m.first_of_count m.candidates (k + 1)) ∷ [] → IsSound later → taken later ≡ taken now + 1
-    → u.id.0 ≡ taken now + 1 → u.most ≡ k → k < most → k < length p.candidates → length p.kept ≤ k → length layout ≡ k + 1 → IsLawful p layout plan
+    → IsOn p parts m budget before had units best clauses most → Searched before now had left → 0 < left → numbers_used now + left ≡ numbers_used before + had
+    → later.vars ≡ now.vars → later.formula ≡ now.formula → later.events ≡ now.events ++ gives (not_at_least_lit m.first_of_count m.candidates (k + 1)) ∷ [] → IsSound later → numbers_used later ≡ numbers_used now + 1
+    → u.id.0 ≡ numbers_used now + 1 → u.most ≡ k → k < most → k < length p.candidates → length p.kept ≤ k → length layout ≡ k + 1 → IsLawful p layout plan
     → IsOn p parts m budget later left (units ++ u ∷ []) (Some (layout, plan)) clauses k
 next_on p parts m budget before now later had left units best clauses most k u layout plan on searched some spent vars formula events sound more number bound below within kept count lawful =
     let n : ℕ = length p.candidates in

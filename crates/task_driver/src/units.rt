@@ -3,8 +3,8 @@ ghost use Rattle.std.specs.Prelude.{◌≡◌, ◌<◌, ◌≤◌, ◌+◌, ◌-
 ghost use Rattle.border_counter.specs.Counter.{not_at_least_lit};
 ghost use Rattle.sat_core.specs.Clauses.{IsOver};
 ghost use Rattle.sat_core.specs.Search.{gives, units_of};
-ghost use Rattle.solver_face.specs.Solving.{IsSound, taken};
-ghost use Rattle.task_driver.specs.BoundUnits.{mark_in, order_hints};
+ghost use Rattle.solver_face.specs.Solving.{IsSound, numbers_used};
+ghost use Rattle.task_driver.specs.BoundUnits.{mark_in};
 
 use clause_encoder::VarMap;
 use log_rebase::UnitMark;
@@ -49,13 +49,13 @@ pub(crate) fn give<S: Solver>(
     requires over { IsOver (S.solving solver.old).vars (not_at_least_lit var_map.now.first_of_count var_map.now.candidates (most + 1)) }
     requires clauses { clauses ≡ length (S.solving solver.old).formula }
     requires units { units ≡ length (units_of (S.solving solver.old).events) }
-    requires numbered { taken (S.solving solver.old) < 2 ^ 32 - 1 }
+    requires numbered { numbers_used (S.solving solver.old) < 2 ^ 32 - 1 }
     ensures most { IfOk result (λ unit. unit.most ≡ most) }
-    ensures id { IfOk result (λ unit. unit.id.0 ≡ taken (S.solving solver.old) + 1) }
+    ensures id { IfOk result (λ unit. unit.id.0 ≡ numbers_used (S.solving solver.old) + 1) }
     ensures vars { (S.solving solver.new).vars ≡ (S.solving solver.old).vars }
     ensures formula { (S.solving solver.new).formula ≡ (S.solving solver.old).formula }
     ensures events { OnOk result ((S.solving solver.new).events ≡ (S.solving solver.old).events ++ gives (not_at_least_lit var_map.now.first_of_count var_map.now.candidates (most + 1)) ∷ []) }
-    ensures numbers { OnOk result (taken (S.solving solver.new) ≡ taken (S.solving solver.old) + 1) }
+    ensures numbers { OnOk result (numbers_used (S.solving solver.new) ≡ numbers_used (S.solving solver.old) + 1) }
     ensures sound { IsSound (S.solving solver.new) }
 {
     let id = ClauseId(clauses + units as u32 + solver.conflicts() + 1);

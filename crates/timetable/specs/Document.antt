@@ -14,8 +14,8 @@ abbrev pub at_train : TimeMember → ℕ → ShapeFault TimeMember
 at_train member train = record { member = member; item = train }
 
 -- a stop of the train of that number; it may begin at once and end with the timetable, where nothing else is said
-unfoldable pub stop_at : ℕ → ℕ → ℕ → Json → Reading StopEntry TimeMember
-stop_at train horizon_s place d = do
+unfoldable pub stop_entry : ℕ → ℕ → ℕ → Json → Reading StopEntry TimeMember
+stop_entry train horizon_s place d = do
   is_object ← object (at_train TrainsStops train) d
   station ← text (at_train StopsStation train) (codes "station") d
   dwell_s ← number (at_train StopsDwellS train) (codes "dwell_s") d
@@ -24,8 +24,8 @@ stop_at train horizon_s place d = do
   Ok (record { station = station; dwell_s = dwell_s; from_s = unwrap_or from_s 0; until_s = unwrap_or until_s horizon_s })
 
 -- the train of that number
-unfoldable pub train_at : ℕ → ℕ → Json → Reading TrainEntry TimeMember
-train_at horizon_s train d = do
+unfoldable pub train_entry : ℕ → ℕ → Json → Reading TrainEntry TimeMember
+train_entry horizon_s train d = do
   is_object ← object (at_train Trains train) d
   name ← text (at_train TrainsName train) (codes "name") d
   length_m ← number (at_train TrainsLengthM train) (codes "length_m") d
@@ -35,7 +35,7 @@ train_at horizon_s train d = do
   to ← text (at_train TrainsTo train) (codes "to") d
   arrive_s ← optional_number (at_train TrainsArriveS train) (codes "arrive_s") d
   entry_until_s ← optional_number (at_train TrainsEntryUntilS train) (codes "entry_until_s") d
-  stops ← optional_list (at_train TrainsStops train) (stop_at train horizon_s) (codes "stops") d
+  stops ← optional_list (at_train TrainsStops train) (stop_entry train horizon_s) (codes "stops") d
   Ok
       (record {
         name = name;
@@ -51,13 +51,13 @@ train_at horizon_s train d = do
       })
 
 -- the entries of a timetable document
-unfoldable pub document : Json → Reading Entries TimeMember
-document d = do
+unfoldable pub timetable_document : Json → Reading Entries TimeMember
+timetable_document d = do
   is_object ← object (at_train Document 0) d
   space_step_m ← number (at_train SpaceStepM 0) (codes "space_step_m") d
   time_step_s ← number (at_train TimeStepS 0) (codes "time_step_s") d
   horizon_s ← number (at_train HorizonS 0) (codes "horizon_s") d
-  trains ← list (at_train Trains 0) (train_at horizon_s) (codes "trains") d
+  trains ← list (at_train Trains 0) (train_entry horizon_s) (codes "trains") d
   Ok (record { space_step_m = space_step_m; time_step_s = time_step_s; horizon_s = horizon_s; trains = trains })
 
 -- fewer than 4,294,967,296 stops

@@ -3,7 +3,7 @@
 ghost use Rattle.std.specs.Prelude.{◌≡◌, IfOk};
 ghost use Rattle.vss_json.specs.Values.{json_of};
 ghost use Rattle.vss_json.specs.Readings.{Gives};
-ghost use Rattle.timetable.specs.Document.{HasFewEntries, HasFewStopEntries, at_train as fault_at, document, stop_at, train_at};
+ghost use Rattle.timetable.specs.Document.{HasFewEntries, HasFewStopEntries, at_train as fault_at, timetable_document, stop_entry, train_entry};
 
 use crate::entries::{Entries, StopEntry, TrainEntry};
 use crate::refusal::TimeMember;
@@ -28,7 +28,7 @@ fn at(member: TimeMember, item: u32) -> ShapeFault<TimeMember>
 pub(crate) struct Document;
 
 impl Reader<Entries, TimeMember> for Document {
-    ghost reading = { λ r item. document };
+    ghost reading = { λ r item. timetable_document };
 
     ghost keeps = { λ r. HasFewEntries };
 
@@ -37,9 +37,9 @@ impl Reader<Entries, TimeMember> for Document {
     }
 }
 
-#[tactic(auto, unfolding(crate::specs::Document::document))]
+#[tactic(auto, unfolding(crate::specs::Document::timetable_document))]
 fn entries(alloc: Global, value: &Json) -> Walk<Entries>
-    ensures read { Gives (document (json_of value.now)) result }
+    ensures read { Gives (timetable_document (json_of value.now)) result }
     ensures few { IfOk result HasFewEntries }
 {
     object(value, at(TimeMember::Document, 0))?;
@@ -63,7 +63,7 @@ struct Trains {
 }
 
 impl Reader<TrainEntry, TimeMember> for Trains {
-    ghost reading = { λ r. train_at r.horizon_s };
+    ghost reading = { λ r. train_entry r.horizon_s };
 
     ghost keeps = { λ r. HasFewStopEntries };
 
@@ -72,9 +72,9 @@ impl Reader<TrainEntry, TimeMember> for Trains {
     }
 }
 
-#[tactic(auto, unfolding(crate::specs::Document::train_at))]
+#[tactic(auto, unfolding(crate::specs::Document::train_entry))]
 fn train(alloc: Global, value: &Json, train: u32, horizon_s: u64) -> Walk<TrainEntry>
-    ensures read { Gives (train_at horizon_s train (json_of value.now)) result }
+    ensures read { Gives (train_entry horizon_s train (json_of value.now)) result }
     ensures few { IfOk result HasFewStopEntries }
 {
     object(value, at(TimeMember::Trains, train))?;
@@ -120,7 +120,7 @@ struct Stops {
 impl Reader<StopEntry, TimeMember> for Stops {
     ghost use Rattle.std.specs.Prelude.{⊤};
 
-    ghost reading = { λ r. stop_at r.train r.horizon_s };
+    ghost reading = { λ r. stop_entry r.train r.horizon_s };
 
     ghost keeps = { λ r stop. ⊤ };
 
@@ -129,9 +129,9 @@ impl Reader<StopEntry, TimeMember> for Stops {
     }
 }
 
-#[tactic(auto, unfolding(crate::specs::Document::stop_at))]
+#[tactic(auto, unfolding(crate::specs::Document::stop_entry))]
 fn stop(alloc: Global, value: &Json, train: u32, horizon_s: u64, place: u32) -> Walk<StopEntry>
-    ensures { Gives (stop_at train horizon_s place (json_of value.now)) result }
+    ensures { Gives (stop_entry train horizon_s place (json_of value.now)) result }
 {
     object(value, at(TimeMember::TrainsStops, train))?;
     let station = text(alloc, value, "station", at(TimeMember::StopsStation, train))?;

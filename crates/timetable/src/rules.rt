@@ -7,7 +7,7 @@ ghost use Rattle.vss_lists.specs.Orders.{AreKept};
 ghost use Rattle.vss_names.specs.Names.{IsName};
 ghost use Rattle.timetable.specs.Document.{HasFewEntries};
 ghost use Rattle.timetable.specs.Places.{IsBetweenEnds, IsTrainFor};
-ghost use Rattle.timetable.specs.Ranges.{AreGoodSteps, IsGoodIfThere};
+ghost use Rattle.timetable.specs.Ranges.{IsGoodIfThere};
 ghost use Rattle.timetable.specs.Rules.{HasGoodNumbers, HasGoodStepEntries, HasGoodTimes, Tells, told_in as refusal_in, in_train as refusal_of_train, time_rules};
 
 use crate::entries::{Entries, StopEntry, TrainEntry};

@@ -6,14 +6,13 @@ use Rattle.cell_net.specs.declared.plans.Plan.{Plan}
 use Rattle.clause_encoder.specs.declared.task.EncodeRefusal.{EncodeRefusal}
 use Rattle.clause_encoder.specs.declared.task.EncodeRefusal.TheVariants.{Memory}
 use Rattle.derivation_log.specs.declared.step.Refutation.{Refutation}
-use Rattle.log_checker.specs.declared.verdict.LogVerdict.{LogVerdict}
 use Rattle.plan_checker.specs.Laws.{HasOneFirstBreach}
 use Rattle.plan_checker.specs.Verdicts.{IsPlanVerdict}
 use Rattle.plan_checker.specs.declared.breach.Breach.{Breach}
 use Rattle.plan_checker.specs.declared.judging.Verdict.{Verdict}
 use Rattle.plan_checker.specs.declared.judging.Verdict.TheVariants as verdict
 use Rattle.task_driver.specs.Questions.{Question, of_fewest}
-use Rattle.task_driver.specs.TaskEnds.{IsSearchEnd, IsCheckEnd, SearchesEndAlike, ChecksAreOne}
+use Rattle.task_driver.specs.TaskEnds.{SearchesEndAlike, ChecksAreOne}
 use Rattle.vss_report.specs.declared.outcome.Outcome.{Outcome}
 use Rattle.vss_stages.specs.Stages.{IsSettled, HandsOn, handed}
 use Rattle.vss_stages.specs.declared.stop.Stop.{Stop}

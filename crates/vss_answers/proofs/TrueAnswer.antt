@@ -1,5 +1,5 @@
 -- A right answer is true.
-use Rattle.std.proofs.Common.{◌≡◌, ◌≢◌, ℕ, List, Result, Ok, Err, refl, sym, ap, subst, ◌∙◌}
+use Rattle.std.proofs.Common.{ℕ, List, Result, Ok, Err, sym, subst}
 use Rattle.cell_net.specs.declared.ids.CandidateId.{CandidateId}
 use Rattle.cell_net.specs.declared.parts.InstanceParts.{InstanceParts}
 use Rattle.clause_encoder.specs.declared.task.EncodeRefusal.{EncodeRefusal}

@@ -1,5 +1,5 @@
 -- What is right to answer to a job: the answer that tells how its task ends.
-use Rattle.std.specs.Prelude.{◌≡◌, ◌+◌, ℕ, List, length, Some, None, Result, Ok, Err}
+use Rattle.std.specs.Prelude.{◌≡◌, ◌+◌, ℕ, List, length, Some, None, Result, Ok}
 use Rattle.cell_net.specs.Rules.{IsInstance}
 use Rattle.cell_net.specs.declared.ids.CandidateId.{CandidateId}
 use Rattle.cell_net.specs.declared.labels.Labels.{Labels}

@@ -3,7 +3,7 @@ use Rattle.std.specs.Prelude.{Result, Ok}
 use Rattle.task_driver.specs.Questions.{of_fewest, IsPossible}
 use Rattle.task_driver.specs.Outcomes.{Answers}
 use Rattle.vss_stages.specs.declared.stop.Stop.{Stop}
-use Rattle.vss_jobs.specs.Readings.{Job, judging, checking, searching, making, trying}
+use Rattle.vss_jobs.specs.Readings.{Job, checking, searching, trying}
 use Rattle.vss_jobs.specs.declared.refusal.Refusal.{Refusal}
 use Rattle.vss_answers.specs.Answers.{question_of}
 use Rattle.vss_answers.specs.declared.answer.Answer.{Answer}

@@ -2,11 +2,10 @@
 
 ghost use Rattle.std.specs.Prelude.{◌≡◌};
 ghost use Rattle.vss_stages.specs.Stages.{Ends};
-ghost use Rattle.vss_words.specs.Commands.{IsBudget};
 ghost use Rattle.vss_jobs.specs.Held.{job_in};
 ghost use Rattle.vss_jobs.specs.Jobs.{IsReadyJob};
 ghost use Rattle.vss_jobs.specs.Settings.{setting_of};
-ghost use Rattle.vss_jobs.specs.Readings.{judging, checking, searching, trying};
+ghost use Rattle.vss_jobs.specs.Readings.{judging};
 ghost use Rattle.vss_answers.specs.Answers.{IsRightAnswer, judged_answer};
 
 use crate::answer::Answer;

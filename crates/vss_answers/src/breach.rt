@@ -1,6 +1,6 @@
 //! The printed line of a breach.
 
-ghost use Rattle.std.specs.Prelude.{◌≡◌, [], ◌∷◌, ◌++◌, List, ℕ, Some, codes};
+ghost use Rattle.std.specs.Prelude.{◌≡◌, [], ◌∷◌, ◌++◌, Some, codes};
 ghost use Rattle.vss_io.specs.Written.{Prints};
 ghost use Rattle.vss_io.specs.Line.{flat, line};
 ghost use Rattle.vss_answers.specs.PrintedNames.{cell_name, place_name, place_label_text};

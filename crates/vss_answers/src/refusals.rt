@@ -1,6 +1,5 @@
 //! The printed line of a refusal.
 
-ghost use Rattle.std.specs.Prelude.{◌≡◌};
 ghost use Rattle.vss_io.specs.Written.{Prints};
 ghost use Rattle.vss_answers.specs.RefusalTexts.{refused_line, network_refusal_text, timetable_refusal_text, grid_refusal_text, report_refusal_text, sizes_refusal_text, refusal_text};
 

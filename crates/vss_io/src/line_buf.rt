@@ -1,6 +1,6 @@
 //! Lines that are printed piece by piece, without memory.
 
-ghost use Rattle.std.specs.Prelude.{◌≡◌, ℕ, ◌+◌, ◌-◌, ◌*◌, ◌%◌, ◌<◌, ◌≤◌, [], ◌∷◌, ◌++◌, length, take, slice_set, OnOk, OnErr};
+ghost use Rattle.std.specs.Prelude.{◌≡◌, ℕ, ◌+◌, ◌-◌, ◌%◌, ◌<◌, [], ◌++◌, length, take, OnOk, OnErr};
 ghost use Rattle.vss_io.specs.Written.{Prints, PrintsAllBut};
 ghost use Rattle.vss_io.specs.Line.{line, joined};
 

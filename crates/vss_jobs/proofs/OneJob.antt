@@ -40,7 +40,7 @@ use Rattle.vss_jobs.specs.declared.job.Search.TheVariants as search
 use Rattle.vss_jobs.specs.declared.refusal.Refusal.{Refusal}
 use Rattle.vss_jobs.specs.Settings.{Setting, setting_of}
 use Rattle.vss_jobs.specs.Readings.{network_stop, timetable_stop, grid_stop, report_stop, design_job, refutation_job, Job, searching, making, trying, ReadsNetwork, ReadsTimetable, CutsScene, ReadsDesign, ReadsRefutation}
-use Rattle.vss_jobs.specs.Jobs.{ReadsScene, IsSettingOf, IsSettingOfTexts, IsSearchJob, IsCaseJob, IsTrial, IsTrialJob, IsJobOf, IsJob}
+use Rattle.vss_jobs.specs.Jobs.{ReadsScene, IsSettingOf, IsSettingOfTexts, IsSearchJob, IsJobOf, IsJob}
 
 command_alike : (words : List (List ℕ)) → EndAlike (IsCommand words) (IsCommand words)
 command_alike words (Ok a) (Ok b) settled also one other = ap (λ (c : Command). Ok c) (same_Some a b (sym one ∙ other))

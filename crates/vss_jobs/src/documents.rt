@@ -1,6 +1,6 @@
 //! The stages that read the two documents and cut them into steps.
 
-ghost use Rattle.std.specs.Prelude.{◌≡◌, [], ◌∷◌, IfOk};
+ghost use Rattle.std.specs.Prelude.{[], ◌∷◌, IfOk};
 ghost use Rattle.vss_io.specs.Reading.{Keeps};
 ghost use Rattle.vss_stages.specs.Stages.{Ends};
 ghost use Rattle.timetable.specs.Timetables.{IsTimetable};

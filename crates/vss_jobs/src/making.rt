@@ -1,6 +1,6 @@
 //! The job that words and files make.
 
-ghost use Rattle.std.specs.Prelude.{◌≡◌, IfOk, IsErrOf, map, string_bytes};
+ghost use Rattle.std.specs.Prelude.{IfOk, IsErrOf, map, string_bytes};
 ghost use Rattle.vss_io.specs.Reading.{Keeps};
 ghost use Rattle.vss_stages.specs.Stages.{Then, Ends};
 ghost use Rattle.vss_words.specs.Commands.{command, HasInRange, IsBudget, NamesTask};

@@ -16,7 +16,7 @@ use Rattle.vss_report.specs.DesignFaults.{IsPlaceNumber, HasCellsOfRun, StatesDe
 use Rattle.vss_report.specs.Designs.{sweep_line, lines_of_run, lines_of_runs, borders_in, runs_in, runs_begun}
 use Rattle.vss_report.specs.Faults.{IsWrongHere}
 use Rattle.vss_report.specs.Fits.{LineFits, FitBehind, HasAllRuns}
-use Rattle.vss_report.specs.Lines.{ReportLine, header, verdict_done, verdict_impossible, verdict_spent, conflicts, best_none, count, border, run, sweep, smaller_none, refutes, step, end_line, kind_of, line_text, full_text, text_of_lines}
+use Rattle.vss_report.specs.Lines.{ReportLine, header, verdict_done, verdict_impossible, verdict_spent, conflicts, best_none, count, border, run, sweep, smaller_none, refutes, step, end_line, line_kind, line_text, full_text, text_of_lines}
 use Rattle.vss_report.specs.Names.{place_named}
 use Rattle.vss_report.specs.Places.{kinds_at, place_after, MayStand, LinesLead}
 use Rattle.vss_report.specs.Taken.{AreRising, AreTaken, StandsBehind, IsOfDesign, IsFaultOfLine, IsTakenWhole, IsLineFault}
@@ -120,7 +120,7 @@ wrong_line_behind labels bytes number place rest parts at to some = at_end (subs
     at_end : IsTakenTo labels bytes number Finished rest parts → IsLineFault labels bytes (BadLine number)
     at_end to = inl (record {
       before = begins_well labels bytes number Finished rest parts to;
-      all = λ line behind may is. let never : slice_get (kinds_at Finished) may.among.place ≡ Some (kind_of line) = may.among.is_there in cc;
+      all = λ line behind may is. let never : slice_get (kinds_at Finished) may.among.place ≡ Some (line_kind line) = may.among.is_there in cc;
       wrong = wrong_behind bytes number rest to.read some;
     })
 
@@ -159,7 +159,7 @@ ends_with_all labels from before (l ∷ m ∷ lines) due leads fit =
     subst (HasAllRuns labels) (append_assoc before (l ∷ []) (m ∷ lines)) (ends_with_all labels (place_after from l) (before ++ l ∷ []) (m ∷ lines) (not_finished (place_after from l) leads.1) leads.1 fit.1)
   where
     not_finished : (place : Place) → LinesLead place (m ∷ lines) Finished → place ≢ Finished
-    not_finished place leads at = let never : slice_get (kinds_at Finished) leads.0.place ≡ Some (kind_of m) = subst (λ p. slice_get (kinds_at p) leads.0.place ≡ Some (kind_of m)) at leads.0.is_there in cc
+    not_finished place leads at = let never : slice_get (kinds_at Finished) leads.0.place ≡ Some (line_kind m) = subst (λ p. slice_get (kinds_at p) leads.0.place ≡ Some (line_kind m)) at leads.0.is_there in cc
 
 few_runs : (labels : Labels) (before lines : List ReportLine) → FitBehind labels before lines → runs_begun before ≤ length labels.trains → runs_begun (before ++ lines) ≤ length labels.trains
 few_runs labels before [] fit few = subst (λ ls. runs_begun ls ≤ length labels.trains) (sym (append-nil before)) few

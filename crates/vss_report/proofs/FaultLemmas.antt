@@ -10,7 +10,7 @@ use Rattle.std.proofs.lemmas.List.{take_all, get_or_append_left, get_or_at}
 use Rattle.vss_text.specs.Lines.{lines_of, with_first, IsOneLine}
 use Rattle.vss_text.specs.Reading.{EndsWithin, NeverBegins}
 use Rattle.vss_text.proofs.LineLaws.{lines-line, lines-one, FirstLine, none, whole, last, first_line, word_same}
-use Rattle.vss_report.specs.Lines.{ReportLine, kind_of, line_text, full_text, text_of_lines, IsSpelled}
+use Rattle.vss_report.specs.Lines.{ReportLine, line_kind, line_text, full_text, text_of_lines, IsSpelled}
 use Rattle.vss_report.specs.Places.{kinds_at, place_after, IsAmong, MayStand, LinesLead, EndsReport, CanEnd}
 use Rattle.vss_report.specs.Faults.{text_up_to, IsFirstWrong}
 use Rattle.vss_report.specs.declared.place.Place.{Place}
@@ -250,11 +250,11 @@ short_line from at text left done read within = (too_early from at text left don
           };
         }
 
-    no_kind : {A : Type 0} → A → IsAmong (kinds_at Finished) (kind_of within.item) → ⊥
-    no_kind _ among = let never : slice_get (kinds_at Finished) among.place ≡ Some (kind_of within.item) = among.is_there in cc
+    no_kind : {A : Type 0} → A → IsAmong (kinds_at Finished) (line_kind within.item) → ⊥
+    no_kind _ among = let never : slice_get (kinds_at Finished) among.place ≡ Some (line_kind within.item) = among.is_there in cc
 
     by_lines : (ls : List ReportLine) → LinesLead at ls Finished → left ≡ text_of_lines ls → ⊥
-    by_lines [] leads same = no_kind within.fits.among (subst (λ p. IsAmong (kinds_at p) (kind_of within.item)) leads within.fits.among)
+    by_lines [] leads same = no_kind within.fits.among (subst (λ p. IsAmong (kinds_at p) (line_kind within.item)) leads within.fits.among)
     by_lines (x ∷ xs) leads same = plain (length (line_text x)) 0
         (omega (arith, ap length same, length-append (line_text x ++ 10 ∷ []) (text_of_lines xs), length-append (line_text x) (10 ∷ [])))
         (ap (λ b. get_or b (length (line_text x)) 0) (same ∙ append_assoc (line_text x) (10 ∷ []) (text_of_lines xs)) ∙ get_or_at (line_text x) 10 (text_of_lines xs) 0 (length (line_text x)) refl)

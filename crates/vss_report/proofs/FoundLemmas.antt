@@ -3,7 +3,7 @@ use Rattle.std.proofs.Common.{◌≡◌, ◌<◌, ◌≤◌, ◌+◌, inl, inr, 
 use Rattle.std.proofs.lemmas.Bool.{cases_eq}
 use Rattle.std.proofs.lemmas.Option.{slice_get_within}
 use Rattle.vss_text.specs.Reading.{EndsWithin, NeverBegins}
-use Rattle.vss_report.specs.Lines.{kind_of, full_text}
+use Rattle.vss_report.specs.Lines.{line_kind, full_text}
 use Rattle.vss_report.specs.Places.{kinds_at, MayStand}
 use Rattle.vss_report.specs.Readings.{IsOfKind, IsFound}
 use Rattle.vss_report.specs.declared.kind.Kind.{Kind}
@@ -34,8 +34,8 @@ in_range xs k x is = slice_get_within xs k x is
 pub AreTried-all : (text : List ℕ) (place : Place) (kinds : List Kind) (count : ℕ) → kinds ≡ kinds_at place → length kinds ≤ count → AreTried text kinds count → NeverBegins (MayStand place) full_text text
 unfolding NeverBegins
 AreTried-all text place kinds count is all tried = λ l more rest fits same.
-    let at : slice_get kinds fits.among.place ≡ Some (kind_of l) = ap (λ ks. slice_get ks fits.among.place) is ∙ fits.among.is_there in
-    tried.never fits.among.place (kind_of l) (omega (arith, in_range kinds fits.among.place (kind_of l) at)) at l more rest (record { spelled = fits.spelled; kind_is = refl }) same
+    let at : slice_get kinds fits.among.place ≡ Some (line_kind l) = ap (λ ks. slice_get ks fits.among.place) is ∙ fits.among.is_there in
+    tried.never fits.among.place (line_kind l) (omega (arith, in_range kinds fits.among.place (line_kind l) at)) at l more rest (record { spelled = fits.spelled; kind_is = refl }) same
 
 pub found_at : (text rest : List ℕ) (place : Place) (kinds : List Kind) (k : ℕ) (kind : Kind) (found : ReadLine) → kinds ≡ kinds_at place → slice_get kinds k ≡ Some kind → IsFound (IsOfKind kind) text found rest → IsFound (MayStand place) text found rest
 found_at text rest place kinds k kind found is at line = record {

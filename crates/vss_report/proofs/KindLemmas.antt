@@ -16,8 +16,8 @@ use Rattle.vss_text.specs.Numbers.{IsShort, ended}
 use Rattle.vss_text.specs.Reading.{EndsWithin, NeverBegins, Misses, MissesText, Both, both_spelled}
 use Rattle.vss_text.specs.declared.miss.Miss.{Miss}
 use Rattle.vss_text.proofs.ReadingLaws.{misses_first, misses_second, misses_named, misses_either}
-use Rattle.vss_report.specs.Lines.{ReportLine, cut, joint, header, verdict_done, verdict_impossible, verdict_spent, conflicts, best_none, count, border, run, sweep, smaller_none, refutes, step, end_line, kind_of, spaced, full_text}
-use Rattle.vss_report.specs.Readings.{IsOfKind, IsFound, named, behind, AreSweepCells, cells_line, HasCells}
+use Rattle.vss_report.specs.Lines.{ReportLine, cut, joint, header, verdict_done, verdict_impossible, verdict_spent, conflicts, best_none, count, border, run, sweep, smaller_none, refutes, step, end_line, line_kind, spaced, full_text}
+use Rattle.vss_report.specs.Readings.{IsOfKind, IsFound, named, with_word, AreSweepCells, cells_line, HasCells}
 use Rattle.vss_report.specs.declared.kind.Kind.{Kind}
 use Rattle.vss_report.specs.declared.kind.Kind.TheVariants as kind
 use Rattle.vss_report.specs.declared.read_line.ReadLine.TheVariants as read
@@ -51,60 +51,60 @@ fixed_missed k l text miss fits down missed = missed_as Always (word (full_text 
 
 header_is : AllAre Always (word (full_text header)) kind.Header
 header_is header fits = (tt, tt, refl)
-header_is z fits = absurd (let e : kind_of z ≡ kind.Header = fits.kind_is in cc)
+header_is z fits = absurd (let e : line_kind z ≡ kind.Header = fits.kind_is in cc)
 
 pub header_missed : (text : List ℕ) (miss : Miss) → MissesText (full_text header) text miss → Misses (IsOfKind kind.Header) full_text text miss
 header_missed text miss missed = fixed_missed kind.Header header text miss (record { spelled = tt; kind_is = refl }) header_is missed
 
 done_is : AllAre Always (word (full_text verdict_done)) kind.Done
 done_is verdict_done fits = (tt, tt, refl)
-done_is z fits = absurd (let e : kind_of z ≡ kind.Done = fits.kind_is in cc)
+done_is z fits = absurd (let e : line_kind z ≡ kind.Done = fits.kind_is in cc)
 
 pub done_missed : (text : List ℕ) (miss : Miss) → MissesText (full_text verdict_done) text miss → Misses (IsOfKind kind.Done) full_text text miss
 done_missed text miss missed = fixed_missed kind.Done verdict_done text miss (record { spelled = tt; kind_is = refl }) done_is missed
 
 impossible_is : AllAre Always (word (full_text verdict_impossible)) kind.Impossible
 impossible_is verdict_impossible fits = (tt, tt, refl)
-impossible_is z fits = absurd (let e : kind_of z ≡ kind.Impossible = fits.kind_is in cc)
+impossible_is z fits = absurd (let e : line_kind z ≡ kind.Impossible = fits.kind_is in cc)
 
 pub impossible_missed : (text : List ℕ) (miss : Miss) → MissesText (full_text verdict_impossible) text miss → Misses (IsOfKind kind.Impossible) full_text text miss
 impossible_missed text miss missed = fixed_missed kind.Impossible verdict_impossible text miss (record { spelled = tt; kind_is = refl }) impossible_is missed
 
 spent_is : AllAre Always (word (full_text verdict_spent)) kind.Spent
 spent_is verdict_spent fits = (tt, tt, refl)
-spent_is z fits = absurd (let e : kind_of z ≡ kind.Spent = fits.kind_is in cc)
+spent_is z fits = absurd (let e : line_kind z ≡ kind.Spent = fits.kind_is in cc)
 
 pub spent_missed : (text : List ℕ) (miss : Miss) → MissesText (full_text verdict_spent) text miss → Misses (IsOfKind kind.Spent) full_text text miss
 spent_missed text miss missed = fixed_missed kind.Spent verdict_spent text miss (record { spelled = tt; kind_is = refl }) spent_is missed
 
 best_none_is : AllAre Always (word (full_text best_none)) kind.BestNone
 best_none_is best_none fits = (tt, tt, refl)
-best_none_is z fits = absurd (let e : kind_of z ≡ kind.BestNone = fits.kind_is in cc)
+best_none_is z fits = absurd (let e : line_kind z ≡ kind.BestNone = fits.kind_is in cc)
 
 pub best_none_missed : (text : List ℕ) (miss : Miss) → MissesText (full_text best_none) text miss → Misses (IsOfKind kind.BestNone) full_text text miss
 best_none_missed text miss missed = fixed_missed kind.BestNone best_none text miss (record { spelled = tt; kind_is = refl }) best_none_is missed
 
 smaller_none_is : AllAre Always (word (full_text smaller_none)) kind.SmallerNone
 smaller_none_is smaller_none fits = (tt, tt, refl)
-smaller_none_is z fits = absurd (let e : kind_of z ≡ kind.SmallerNone = fits.kind_is in cc)
+smaller_none_is z fits = absurd (let e : line_kind z ≡ kind.SmallerNone = fits.kind_is in cc)
 
 pub smaller_none_missed : (text : List ℕ) (miss : Miss) → MissesText (full_text smaller_none) text miss → Misses (IsOfKind kind.SmallerNone) full_text text miss
 smaller_none_missed text miss missed = fixed_missed kind.SmallerNone smaller_none text miss (record { spelled = tt; kind_is = refl }) smaller_none_is missed
 
 end_is : AllAre Always (word (full_text end_line)) kind.End
 end_is end_line fits = (tt, tt, refl)
-end_is z fits = absurd (let e : kind_of z ≡ kind.End = fits.kind_is in cc)
+end_is z fits = absurd (let e : line_kind z ≡ kind.End = fits.kind_is in cc)
 
 pub end_missed : (text : List ℕ) (miss : Miss) → MissesText (full_text end_line) text miss → Misses (IsOfKind kind.End) full_text text miss
 end_missed text miss missed = fixed_missed kind.End end_line text miss (record { spelled = tt; kind_is = refl }) end_is missed
 
 -- counts of borders
-count_is : AllAre IsShort (behind (codes "design ") (ended 10)) kind.Count
+count_is : AllAre IsShort (with_word (codes "design ") (ended 10)) kind.Count
 count_is (count n) fits = (n, fits.spelled, refl)
-count_is z fits = absurd (let e : kind_of z ≡ kind.Count = fits.kind_is in cc)
+count_is z fits = absurd (let e : line_kind z ≡ kind.Count = fits.kind_is in cc)
 
-pub count_missed : (text : List ℕ) (miss : Miss) → Misses IsShort (behind (codes "design ") (ended 10)) text miss → Misses (IsOfKind kind.Count) full_text text miss
-count_missed text miss missed = missed_as IsShort (behind (codes "design ") (ended 10)) kind.Count text miss (λ n fits. (count n, record { spelled = fits; kind_is = refl }, refl)) count_is missed
+pub count_missed : (text : List ℕ) (miss : Miss) → Misses IsShort (with_word (codes "design ") (ended 10)) text miss → Misses (IsOfKind kind.Count) full_text text miss
+count_missed text miss missed = missed_as IsShort (with_word (codes "design ") (ended 10)) kind.Count text miss (λ n fits. (count n, record { spelled = fits; kind_is = refl }, refl)) count_is missed
 
 -- conflicts
 most_decimal : decimal 1000000000 ≡ codes "1000000000"
@@ -113,24 +113,24 @@ most_decimal = decimal-digits_value (numerals_by_value (λ ds. all_ascii_digits 
 most_conflicts : full_text (conflicts 1000000000) ≡ codes "conflicts 1000000000\n"
 most_conflicts = ap (λ digits. codes "conflicts " ++ (digits ++ 10 ∷ [])) most_decimal
 
-conflicts_up : EachIs IsShort (behind (codes "conflicts ") (ended 10)) kind.Conflicts
+conflicts_up : EachIs IsShort (with_word (codes "conflicts ") (ended 10)) kind.Conflicts
 conflicts_up n fits = (conflicts n, record { spelled = omega arith; kind_is = refl }, refl)
 
-conflicts_are : (z : ReportLine) → IsOfKind kind.Conflicts z → IsLine IsShort (behind (codes "conflicts ") (ended 10)) z ⊎ IsLine Always (word (codes "conflicts 1000000000\n")) z
+conflicts_are : (z : ReportLine) → IsOfKind kind.Conflicts z → IsLine IsShort (with_word (codes "conflicts ") (ended 10)) z ⊎ IsLine Always (word (codes "conflicts 1000000000\n")) z
 conflicts_are (conflicts n) fits = elim (cases_lt n 1000000000) [
   | inl short ↦ inl (n, omega arith, refl)
   | inr most ↦
       let is : n ≡ 1000000000 = omega (arith, fits.spelled) in
       inr (tt, tt, ap (λ m. full_text (conflicts m)) is ∙ most_conflicts)
 ]
-conflicts_are z fits = absurd (let e : kind_of z ≡ kind.Conflicts = fits.kind_is in cc)
+conflicts_are z fits = absurd (let e : line_kind z ≡ kind.Conflicts = fits.kind_is in cc)
 
-pub conflicts_short : (text : List ℕ) → EndsWithin IsShort (behind (codes "conflicts ") (ended 10)) text → EndsWithin (IsOfKind kind.Conflicts) full_text text
-conflicts_short text within = short_as IsShort (behind (codes "conflicts ") (ended 10)) kind.Conflicts text conflicts_up within
+pub conflicts_short : (text : List ℕ) → EndsWithin IsShort (with_word (codes "conflicts ") (ended 10)) text → EndsWithin (IsOfKind kind.Conflicts) full_text text
+conflicts_short text within = short_as IsShort (with_word (codes "conflicts ") (ended 10)) kind.Conflicts text conflicts_up within
 
-pub conflicts_missed : (text : List ℕ) (miss : Miss) → NeverBegins IsShort (behind (codes "conflicts ") (ended 10)) text → MissesText (codes "conflicts 1000000000\n") text miss → Misses (IsOfKind kind.Conflicts) full_text text miss
+pub conflicts_missed : (text : List ℕ) (miss : Miss) → NeverBegins IsShort (with_word (codes "conflicts ") (ended 10)) text → MissesText (codes "conflicts 1000000000\n") text miss → Misses (IsOfKind kind.Conflicts) full_text text miss
 conflicts_missed text miss never missed =
-    misses_either IsShort (behind (codes "conflicts ") (ended 10)) Always (word (codes "conflicts 1000000000\n")) (IsOfKind kind.Conflicts) full_text text miss
+    misses_either IsShort (with_word (codes "conflicts ") (ended 10)) Always (word (codes "conflicts 1000000000\n")) (IsOfKind kind.Conflicts) full_text text miss
     (λ x _. (conflicts 1000000000, record { spelled = omega arith; kind_is = refl }, most_conflicts)) conflicts_are never missed
 
 pub conflicts_found : (text rest : List ℕ) → text ≡ codes "conflicts 1000000000\n" ++ rest → IsFound (IsOfKind kind.Conflicts) text (read.Conflicts 1000000000) rest
@@ -146,20 +146,20 @@ pub named_text : (name digits : List ℕ) → (name ++ (32 ∷ digits)) ++ 10 �
 named_text name digits = append_assoc name (32 ∷ digits) (10 ∷ []) ∙ sym (append_assoc name (32 ∷ []) (digits ++ 10 ∷ []))
 
 -- borders
-cut_up : EachIs (Both IsName IsShort) (behind (codes "border cut ") (both_spelled (named 32) (ended 10))) kind.Border
+cut_up : EachIs (Both IsName IsShort) (with_word (codes "border cut ") (both_spelled (named 32) (ended 10))) kind.Border
 cut_up x fits = (border (cut x.0 x.1), record { spelled = (fits.0, fits.1); kind_is = refl }, ap (λ back. codes "border cut " ++ back) (named_text x.0 (decimal x.1)))
 
-borders_are : (z : ReportLine) → IsOfKind kind.Border z → IsLine (Both IsName IsShort) (behind (codes "border cut ") (both_spelled (named 32) (ended 10))) z ⊎ IsLine IsName (behind (codes "border joint ") (named 10)) z
+borders_are : (z : ReportLine) → IsOfKind kind.Border z → IsLine (Both IsName IsShort) (with_word (codes "border cut ") (both_spelled (named 32) (ended 10))) z ⊎ IsLine IsName (with_word (codes "border joint ") (named 10)) z
 borders_are (border (cut track at_m)) fits = inl ((track, at_m), (fits.spelled.0, fits.spelled.1), ap (λ back. codes "border cut " ++ back) (named_text track (decimal at_m)))
 borders_are (border (joint name)) fits = inr (name, fits.spelled, refl)
-borders_are z fits = absurd (let e : kind_of z ≡ kind.Border = fits.kind_is in cc)
+borders_are z fits = absurd (let e : line_kind z ≡ kind.Border = fits.kind_is in cc)
 
-pub border_short : (text : List ℕ) → EndsWithin (Both IsName IsShort) (behind (codes "border cut ") (both_spelled (named 32) (ended 10))) text → EndsWithin (IsOfKind kind.Border) full_text text
-border_short text within = short_as (Both IsName IsShort) (behind (codes "border cut ") (both_spelled (named 32) (ended 10))) kind.Border text cut_up within
+pub border_short : (text : List ℕ) → EndsWithin (Both IsName IsShort) (with_word (codes "border cut ") (both_spelled (named 32) (ended 10))) text → EndsWithin (IsOfKind kind.Border) full_text text
+border_short text within = short_as (Both IsName IsShort) (with_word (codes "border cut ") (both_spelled (named 32) (ended 10))) kind.Border text cut_up within
 
-pub border_missed : (text : List ℕ) (miss : Miss) → NeverBegins (Both IsName IsShort) (behind (codes "border cut ") (both_spelled (named 32) (ended 10))) text → Misses IsName (behind (codes "border joint ") (named 10)) text miss → Misses (IsOfKind kind.Border) full_text text miss
+pub border_missed : (text : List ℕ) (miss : Miss) → NeverBegins (Both IsName IsShort) (with_word (codes "border cut ") (both_spelled (named 32) (ended 10))) text → Misses IsName (with_word (codes "border joint ") (named 10)) text miss → Misses (IsOfKind kind.Border) full_text text miss
 border_missed text miss never missed =
-    misses_either (Both IsName IsShort) (behind (codes "border cut ") (both_spelled (named 32) (ended 10))) IsName (behind (codes "border joint ") (named 10)) (IsOfKind kind.Border) full_text text miss
+    misses_either (Both IsName IsShort) (with_word (codes "border cut ") (both_spelled (named 32) (ended 10))) IsName (with_word (codes "border joint ") (named 10)) (IsOfKind kind.Border) full_text text miss
     (λ name fits. (border (joint name), record { spelled = fits; kind_is = refl }, refl)) borders_are never missed
 
 -- a text that begins with words, a name and a number
@@ -168,41 +168,41 @@ named_front text words name digits rest is =
     is ∙ (ap (λ back. words ++ back) (sym (append_assoc (name ++ (32 ∷ digits)) (10 ∷ []) rest ∙ append_assoc name (32 ∷ digits) (10 ∷ rest))) ∙ sym (append_assoc words ((name ++ (32 ∷ digits)) ++ 10 ∷ []) rest))
 
 -- the first lines of runs
-runs_are : AllAre (Both IsName IsShort) (behind (codes "run ") (both_spelled (named 32) (ended 10))) kind.Run
+runs_are : AllAre (Both IsName IsShort) (with_word (codes "run ") (both_spelled (named 32) (ended 10))) kind.Run
 runs_are (run train start) fits = ((train, start), (fits.spelled.0, fits.spelled.1), ap (λ back. codes "run " ++ back) (named_text train (decimal start)))
-runs_are z fits = absurd (let e : kind_of z ≡ kind.Run = fits.kind_is in cc)
+runs_are z fits = absurd (let e : line_kind z ≡ kind.Run = fits.kind_is in cc)
 
-pub run_missed : (text : List ℕ) (miss : Miss) → Misses (Both IsName IsShort) (behind (codes "run ") (both_spelled (named 32) (ended 10))) text miss → Misses (IsOfKind kind.Run) full_text text miss
+pub run_missed : (text : List ℕ) (miss : Miss) → Misses (Both IsName IsShort) (with_word (codes "run ") (both_spelled (named 32) (ended 10))) text miss → Misses (IsOfKind kind.Run) full_text text miss
 run_missed text miss missed =
-    missed_as (Both IsName IsShort) (behind (codes "run ") (both_spelled (named 32) (ended 10))) kind.Run text miss
+    missed_as (Both IsName IsShort) (with_word (codes "run ") (both_spelled (named 32) (ended 10))) kind.Run text miss
     (λ x fits. (run x.0 x.1, record { spelled = (fits.0, fits.1); kind_is = refl }, ap (λ back. codes "run " ++ back) (named_text x.0 (decimal x.1)))) runs_are missed
 
 -- sweeps
-sweeps_are : AllAre AreSweepCells (behind (codes "sweep") cells_line) kind.Sweep
+sweeps_are : AllAre AreSweepCells (with_word (codes "sweep") cells_line) kind.Sweep
 sweeps_are (sweep cells) fits = (cells, fits.spelled, refl)
-sweeps_are z fits = absurd (let e : kind_of z ≡ kind.Sweep = fits.kind_is in cc)
+sweeps_are z fits = absurd (let e : line_kind z ≡ kind.Sweep = fits.kind_is in cc)
 
-pub sweep_missed : (text : List ℕ) (miss : Miss) → Misses AreSweepCells (behind (codes "sweep") cells_line) text miss → Misses (IsOfKind kind.Sweep) full_text text miss
-sweep_missed text miss missed = missed_as AreSweepCells (behind (codes "sweep") cells_line) kind.Sweep text miss (λ cells fits. (sweep cells, record { spelled = fits; kind_is = refl }, refl)) sweeps_are missed
+pub sweep_missed : (text : List ℕ) (miss : Miss) → Misses AreSweepCells (with_word (codes "sweep") cells_line) text miss → Misses (IsOfKind kind.Sweep) full_text text miss
+sweep_missed text miss missed = missed_as AreSweepCells (with_word (codes "sweep") cells_line) kind.Sweep text miss (λ cells fits. (sweep cells, record { spelled = fits; kind_is = refl }, refl)) sweeps_are missed
 
 -- the first lines of refutations
-bounds_are : (z : ReportLine) → IsOfKind kind.Refutes z → IsLine Always (word (codes "refutes given\n")) z ⊎ IsLine IsShort (behind (codes "refutes ") (ended 10)) z
+bounds_are : (z : ReportLine) → IsOfKind kind.Refutes z → IsLine Always (word (codes "refutes given\n")) z ⊎ IsLine IsShort (with_word (codes "refutes ") (ended 10)) z
 bounds_are (refutes Given) fits = inl (tt, tt, refl)
 bounds_are (refutes (AtMost k)) fits = inr (k, fits.spelled, refl)
-bounds_are z fits = absurd (let e : kind_of z ≡ kind.Refutes = fits.kind_is in cc)
+bounds_are z fits = absurd (let e : line_kind z ≡ kind.Refutes = fits.kind_is in cc)
 
 pub refutes_short : (text : List ℕ) → EndsWithin {X = Unit {0}} Always (word (codes "refutes given\n")) text → EndsWithin (IsOfKind kind.Refutes) full_text text
 refutes_short text within = short_as Always (word (codes "refutes given\n")) kind.Refutes text (λ x _. (refutes Given, record { spelled = tt; kind_is = refl }, refl)) within
 
-pub refutes_missed : (text : List ℕ) (miss : Miss) → NeverBegins {X = Unit {0}} Always (word (codes "refutes given\n")) text → Misses IsShort (behind (codes "refutes ") (ended 10)) text miss → Misses (IsOfKind kind.Refutes) full_text text miss
+pub refutes_missed : (text : List ℕ) (miss : Miss) → NeverBegins {X = Unit {0}} Always (word (codes "refutes given\n")) text → Misses IsShort (with_word (codes "refutes ") (ended 10)) text miss → Misses (IsOfKind kind.Refutes) full_text text miss
 refutes_missed text miss never missed =
-    misses_either Always (word (codes "refutes given\n")) IsShort (behind (codes "refutes ") (ended 10)) (IsOfKind kind.Refutes) full_text text miss
+    misses_either Always (word (codes "refutes given\n")) IsShort (with_word (codes "refutes ") (ended 10)) (IsOfKind kind.Refutes) full_text text miss
     (λ k fits. (refutes (AtMost k), record { spelled = fits; kind_is = refl }, refl)) bounds_are never missed
 
 -- steps
 steps_are : AllAre (Both IsInRange Always) (both_spelled step_text (word (10 ∷ []))) kind.Step
 steps_are (step s) fits = ((s, tt), (fits.spelled, tt), refl)
-steps_are z fits = absurd (let e : kind_of z ≡ kind.Step = fits.kind_is in cc)
+steps_are z fits = absurd (let e : line_kind z ≡ kind.Step = fits.kind_is in cc)
 
 step_missed : (text : List ℕ) (miss : Miss) → Misses (Both IsInRange Always) (both_spelled step_text (word (10 ∷ []))) text miss → Misses (IsOfKind kind.Step) full_text text miss
 step_missed text miss missed =

@@ -17,7 +17,7 @@ use Rattle.vss_names.specs.Names.{IsName}
 use Rattle.vss_text.specs.Reading.{IsReadOnce}
 use Rattle.vss_text.proofs.NumberLaws.{number_one_reading}
 use Rattle.vss_text.proofs.LineLaws.{word_same}
-use Rattle.vss_report.specs.Lines.{ReportLine, PlaceName, CellName, cut, joint, header, verdict_done, verdict_impossible, verdict_spent, conflicts, best_none, count, border, run, sweep, smaller_none, refutes, step, end_line, kind_of, sign, cell_text, spaced, place_text, bound_text, line_text, full_text, text_of_lines, IsSpelledPlace, IsSpelledCell, IsSpelledBound, IsSpelled}
+use Rattle.vss_report.specs.Lines.{ReportLine, PlaceName, CellName, cut, joint, header, verdict_done, verdict_impossible, verdict_spent, conflicts, best_none, count, border, run, sweep, smaller_none, refutes, step, end_line, line_kind, sign, cell_text, spaced, place_text, bound_text, line_text, full_text, text_of_lines, IsSpelledPlace, IsSpelledCell, IsSpelledBound, IsSpelled}
 use Rattle.vss_report.proofs.LineTexts.{same_kind, line_plain, name_lacks}
 
 sign_byte : End → ℕ
@@ -96,7 +96,7 @@ unfolding IsReadOnce
 steps_once one other range range' same = (step_read_once one other [] [] range range' (ap (λ b. b ++ []) same)).0
 
 -- lines of one kind and text are one
-texts_once : (one other : ReportLine) → kind_of one ≡ kind_of other → IsSpelled one → IsSpelled other → line_text one ≡ line_text other → one ≡ other
+texts_once : (one other : ReportLine) → line_kind one ≡ line_kind other → IsSpelled one → IsSpelled other → line_text one ≡ line_text other → one ≡ other
 texts_once header header kinds fits fits' same = refl
 texts_once verdict_done verdict_done kinds fits fits' same = refl
 texts_once verdict_impossible verdict_impossible kinds fits fits' same = refl

@@ -17,7 +17,7 @@ use Rattle.sat_core.specs.declared.literal.ClauseId.{ClauseId}
 use Rattle.vss_names.specs.Names.{IsName, is_name_byte}
 use Rattle.vss_text.specs.Lines.{Lacks, IsOneLine}
 use Rattle.vss_text.proofs.LineLaws.{one_line_by}
-use Rattle.vss_report.specs.Lines.{ReportLine, PlaceName, CellName, cut, joint, header, verdict_done, verdict_impossible, verdict_spent, conflicts, best_none, count, border, run, sweep, smaller_none, refutes, step, end_line, kind_of, sign, spaced, place_text, bound_text, line_text, full_text, IsSpelledPlace, IsSpelledCell, IsSpelledBound, IsSpelled}
+use Rattle.vss_report.specs.Lines.{ReportLine, PlaceName, CellName, cut, joint, header, verdict_done, verdict_impossible, verdict_spent, conflicts, best_none, count, border, run, sweep, smaller_none, refutes, step, end_line, line_kind, sign, spaced, place_text, bound_text, line_text, full_text, IsSpelledPlace, IsSpelledCell, IsSpelledBound, IsSpelled}
 use Rattle.vss_report.specs.declared.kind.Kind.{Kind}
 use Rattle.vss_report.specs.declared.kind.Kind.TheVariants as kind
 
@@ -33,7 +33,7 @@ told_kind bytes =
     else if slice_index bytes 0 == 97 then kind.Step
     else kind.End
 
-tells : (l : ReportLine) (rest : List ℕ) → told_kind (full_text l ++ rest) ≡ kind_of l
+tells : (l : ReportLine) (rest : List ℕ) → told_kind (full_text l ++ rest) ≡ line_kind l
 tells header rest = refl
 tells verdict_done rest = refl
 tells verdict_impossible rest = refl
@@ -51,7 +51,7 @@ tells (step (Drop ids)) rest = refl
 tells end_line rest = refl
 
 -- two lines at the front of one text are of one kind
-pub same_kind : (one other : ReportLine) (rest rest' : List ℕ) → full_text one ++ rest ≡ full_text other ++ rest' → kind_of one ≡ kind_of other
+pub same_kind : (one other : ReportLine) (rest rest' : List ℕ) → full_text one ++ rest ≡ full_text other ++ rest' → line_kind one ≡ line_kind other
 same_kind one other rest rest' same = sym (tells one rest) ∙ ap told_kind same ∙ tells other rest'
 
 pub same_item : (xs : List ℕ) (k d : ℕ) → k < length xs → get_or xs k d ≡ get_or xs k 0

@@ -8,7 +8,7 @@ use Rattle.cell_net.specs.declared.labels.PlaceLabel.{PlaceLabel}
 use Rattle.cell_net.specs.declared.labels.PlaceLabel.TheVariants.{Cut, Joint}
 use Rattle.cell_net.specs.declared.labels.Labels.{Labels}
 use Rattle.vss_report.specs.Lines.{CellName, PlaceName, cut}
-use Rattle.vss_report.specs.Names.{track_name, labelled_cell, labelled_place, IsCellOf, IsPlaceOf}
+use Rattle.vss_report.specs.Names.{track_name, labelled_cell, labelled_place, IsNamedCell, IsPlaceOf}
 use Rattle.vss_report.proofs.Placed.{all_at, one_place, some_at}
 
 track_is : (labels : Labels) (track : ℕ) (name : List ℕ) → slice_get labels.tracks track ≡ Some name → track_name labels track ≡ name
@@ -55,7 +55,7 @@ cell_label_same labels one other good within within' tracks numbers =
     λ i. record { track = track i; index = numbers i }
 
 -- two directed cells of one name are one
-pub cell_same : (labels : Labels) (name : CellName) (one other : DirCell) → AreLabels labels → IsCellOf labels name one → IsCellOf labels name other → one ≡ other
+pub cell_same : (labels : Labels) (name : CellName) (one other : DirCell) → AreLabels labels → IsNamedCell labels name one → IsNamedCell labels name other → one ≡ other
 cell_same labels name one other good is is' =
     let found = some_at labels.cells one.cell.0 is.within in
     let seen = some_at labels.cells other.cell.0 is'.within in

@@ -13,7 +13,7 @@ use Rattle.vss_text.specs.Reading.{IsReadOnce}
 use Rattle.vss_report.specs.DesignFaults.{IsPlaceNumber, HasCells, HasCellsOfRun, StatesDesign, FaultyAt, GoesWrongFirst, IsDesignFault, HasOneDesignReading}
 use Rattle.vss_report.specs.Designs.{sweep_line, lines_of_runs, has_design, borders_in, runs_in, runs_begun}
 use Rattle.vss_report.specs.Fits.{LineFits, FitBehind, LinesFit, IsOutOfOrder, NamesUnknown}
-use Rattle.vss_report.specs.Lines.{ReportLine, CellName, border, run, sweep, smaller_none, refutes, end_line, kind_of, line_text, full_text, text_of_lines, IsSpelled}
+use Rattle.vss_report.specs.Lines.{ReportLine, CellName, border, run, sweep, smaller_none, refutes, end_line, line_kind, line_text, full_text, text_of_lines, IsSpelled}
 use Rattle.vss_report.specs.Names.{train_name, cell_named, place_named}
 use Rattle.vss_report.specs.Places.{kinds_at, IsAmong, MayStand, LinesLead, EndsReport}
 use Rattle.vss_report.specs.declared.fault.ReportFault.{ReportFault}
@@ -57,7 +57,7 @@ fit_at : (labels : Labels) (before lines more : List ReportLine) (l : ReportLine
 fit_at labels before [] more l fit = subst (λ ls. LineFits labels ls l) (sym (append-nil before)) fit.0
 fit_at labels before (x ∷ lines) more l fit = subst (λ ls. LineFits labels ls l) (append_assoc before (x ∷ []) lines) (fit_at labels (before ++ x ∷ []) lines more l fit.1)
 
-may_at : (from at to : Place) (lines more : List ReportLine) (l : ReportLine) → LinesLead from lines at → LinesLead from (lines ++ (l ∷ more)) to → IsAmong (kinds_at at) (kind_of l)
+may_at : (from at to : Place) (lines more : List ReportLine) (l : ReportLine) → LinesLead from lines at → LinesLead from (lines ++ (l ∷ more)) to → IsAmong (kinds_at at) (line_kind l)
 may_at from at to lines more l first all = (leads_on from at to lines (l ∷ more) first all).0
 
 same_place : (from at to : Place) (lines other : List ReportLine) → lines ≡ other → LinesLead from lines at → LinesLead from other to → at ≡ to

@@ -3,7 +3,7 @@ use Rattle.std.proofs.Common.{◌≡◌, ◌≢◌, ◌-◌, ℕ, zero, suc, Lis
 use Rattle.std.specs.Prelude.{Ok, Err}
 use Rattle.derivation_log.specs.declared.step.Bound.{Bound}
 use Rattle.derivation_log.specs.declared.step.Refutation.{Refutation}
-use Rattle.vss_report.specs.Lines.{ReportLine, header, verdict_done, verdict_impossible, verdict_spent, conflicts, best_none, count, border, run, sweep, smaller_none, refutes, step, end_line, kind_of}
+use Rattle.vss_report.specs.Lines.{ReportLine, header, verdict_done, verdict_impossible, verdict_spent, conflicts, best_none, count, border, run, sweep, smaller_none, refutes, step, end_line, line_kind}
 use Rattle.vss_report.specs.Places.{kinds_at, place_after, LinesLead, EndsReport}
 use Rattle.vss_report.specs.Refutations.{steps_of_lines, StatesRefutation, IsFault, HasOneRefutationReading}
 use Rattle.vss_report.specs.declared.fault.ReportFault.{ReportFault}
@@ -27,14 +27,14 @@ not_log other (suc (suc k)) no_step no_end is = cc
 
 nothing_finished : (lines : List ReportLine) (to : Place) (k : ℕ) (l : ReportLine) → LinesLead Finished lines to → slice_get lines k ≢ Some l
 nothing_finished [] to k l leads is = cc
-nothing_finished (x ∷ lines) to k l leads is = let never : slice_get (kinds_at Finished) leads.0.place ≡ Some (kind_of x) = leads.0.is_there in cc
+nothing_finished (x ∷ lines) to k l leads is = let never : slice_get (kinds_at Finished) leads.0.place ≡ Some (line_kind x) = leads.0.is_there in cc
 
 -- within a log nothing else is refuted
 none_in_log : (lines : List ReportLine) (to : Place) (k : ℕ) (bound : Bound) → LinesLead Log lines to → slice_get lines k ≢ Some (refutes bound)
 none_in_log [] to k bound leads is = cc
 none_in_log (l ∷ lines) to zero bound leads is =
     let one : l ≡ refutes bound = cc in
-    not_in_log leads.0.place (subst (λ x. slice_get (kinds_at Log) leads.0.place ≡ Some (kind_of x)) one leads.0.is_there)
+    not_in_log leads.0.place (subst (λ x. slice_get (kinds_at Log) leads.0.place ≡ Some (line_kind x)) one leads.0.is_there)
 none_in_log (step s ∷ lines) to (suc k) bound leads is = none_in_log lines to k bound leads.1 is
 none_in_log (end_line ∷ lines) to (suc k) bound leads is = nothing_finished lines to k (refutes bound) leads.1 is
 none_in_log (header ∷ lines) to (suc k) bound leads is = absurd (not_log kind.Header leads.0.place (λ same. cc) (λ same. cc) leads.0.is_there)

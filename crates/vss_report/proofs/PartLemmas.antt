@@ -9,7 +9,7 @@ use Rattle.vss_text.specs.Reading.{EndsWithin, NeverBegins, Misses, MissesText, 
 use Rattle.vss_text.specs.declared.miss.Miss.{Miss}
 use Rattle.vss_text.proofs.ReadingLaws.{misses_first, misses_second, misses_named, word_read_once}
 use Rattle.vss_text.proofs.LineLaws.{word_same}
-use Rattle.vss_report.specs.Readings.{named, behind}
+use Rattle.vss_report.specs.Readings.{named, with_word}
 use Rattle.vss_report.proofs.LineTexts.{name_lacks, same_item}
 
 abbrev pub Always : Unit {0} → Type 0
@@ -19,16 +19,16 @@ abbrev pub word : List ℕ → Unit {0} → List ℕ
 word bytes _ = bytes
 
 -- behind words that are missed, all is missed
-pub word_missed : {X : Type 0} (P : X → Type 0) (spelled : X → List ℕ) (words text : List ℕ) (miss : Miss) (x : X) → P x → MissesText words text miss → Misses P (behind words spelled) text miss
+pub word_missed : {X : Type 0} (P : X → Type 0) (spelled : X → List ℕ) (words text : List ℕ) (miss : Miss) (x : X) → P x → MissesText words text miss → Misses P (with_word words spelled) text miss
 word_missed P spelled words text miss x fits missed =
-    misses_named (Both Always P) (both_spelled (word words) spelled) P (behind words spelled) text miss
+    misses_named (Both Always P) (both_spelled (word words) spelled) P (with_word words spelled) text miss
     (λ p both. (p.1, both.1, refl)) (λ z more rest fit same. ((tt, z), (tt, fit), refl))
     (misses_first Always (word words) P spelled text miss x fits missed)
 
 -- behind words that are there, what is missed is missed with them
-pub rest_missed : {X : Type 0} (P : X → Type 0) (spelled : X → List ℕ) (words text rest : List ℕ) (miss : Miss) → text ≡ words ++ rest → Misses P spelled rest miss → Misses P (behind words spelled) text miss
+pub rest_missed : {X : Type 0} (P : X → Type 0) (spelled : X → List ℕ) (words text rest : List ℕ) (miss : Miss) → text ≡ words ++ rest → Misses P spelled rest miss → Misses P (with_word words spelled) text miss
 rest_missed P spelled words text rest miss is missed =
-    misses_named (Both Always P) (both_spelled (word words) spelled) P (behind words spelled) text miss
+    misses_named (Both Always P) (both_spelled (word words) spelled) P (with_word words spelled) text miss
     (λ p both. (p.1, both.1, refl)) (λ z more rest fit same. ((tt, z), (tt, fit), refl))
     (misses_second Always (word words) P spelled text rest miss tt (word_read_once words) tt is missed)
 

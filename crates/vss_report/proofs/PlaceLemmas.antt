@@ -5,7 +5,7 @@ use Rattle.derivation_log.specs.declared.step.Bound.TheVariants.{Given}
 use Rattle.cell_net.specs.declared.cells.End.TheVariants.{Low}
 use Rattle.std.specs.Prelude.{IsTrue}
 use Rattle.vss_names.specs.Names.{IsName, is_name_byte}
-use Rattle.vss_report.specs.Lines.{ReportLine, joint, header, verdict_impossible, conflicts, best_none, count, border, sweep, refutes, end_line, kind_of, IsSpelledCell, IsSpelled}
+use Rattle.vss_report.specs.Lines.{ReportLine, joint, header, verdict_impossible, conflicts, best_none, count, border, sweep, refutes, end_line, line_kind, IsSpelledCell, IsSpelled}
 use Rattle.vss_report.specs.Places.{kinds_at, behind_runs, place_after, IsAmong, LinesLead}
 use Rattle.vss_report.specs.declared.kind.Kind.{Kind}
 use Rattle.vss_report.specs.declared.kind.Kind.TheVariants as kind
@@ -21,7 +21,7 @@ pub leads_then : (from mid to : Place) (done later : List ReportLine) → LinesL
 leads_then from mid to [] later first second = subst (λ p. LinesLead p later to) (sym first) second
 leads_then from mid to (l ∷ done) later first second = (first.0, leads_then (place_after from l) mid to done later first.1 second)
 
-pub leads_one : (from mid : Place) (done : List ReportLine) (l : ReportLine) → LinesLead from done mid → IsAmong (kinds_at mid) (kind_of l) → LinesLead from (done ++ l ∷ []) (place_after mid l)
+pub leads_one : (from mid : Place) (done : List ReportLine) (l : ReportLine) → LinesLead from done mid → IsAmong (kinds_at mid) (line_kind l) → LinesLead from (done ++ l ∷ []) (place_after mid l)
 leads_one from mid done l first may = leads_then from mid (place_after mid l) done (l ∷ []) first (may, refl)
 
 -- lines by which a report ends
@@ -33,7 +33,7 @@ pub record Ending (from : Place) : Type 0 where
 among_first : (k : Kind) (ks : List Kind) → IsAmong (k ∷ ks) k
 among_first k ks = record { place = 0; is_there = refl }
 
-one_more : (from : Place) (l : ReportLine) → IsAmong (kinds_at from) (kind_of l) → IsSpelled l → Ending (place_after from l) → Ending from
+one_more : (from : Place) (l : ReportLine) → IsAmong (kinds_at from) (line_kind l) → IsSpelled l → Ending (place_after from l) → Ending from
 one_more from l may fits more = record { lines = l ∷ more.lines; leads = (may, more.leads); spelled = cons_spelled l more.lines fits more.spelled }
   where
     cons_spelled : (l : ReportLine) (lines : List ReportLine) → IsSpelled l → All IsSpelled lines → All IsSpelled (l ∷ lines)

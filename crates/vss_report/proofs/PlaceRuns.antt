@@ -1,7 +1,7 @@
 -- A sweep stands behind the first line of a run.
 use Rattle.std.proofs.Common.{◌≡◌, ◌<◌, ◌⊎◌, inl, inr, ℕ, zero, suc, Bool, true, false, List, [], ◌∷◌, Some, slice_get, sym, subst, arith}
 use Rattle.vss_report.specs.Designs.{runs_begun}
-use Rattle.vss_report.specs.Lines.{ReportLine, header, verdict_done, verdict_impossible, verdict_spent, conflicts, best_none, count, border, run, sweep, smaller_none, refutes, step, end_line, kind_of}
+use Rattle.vss_report.specs.Lines.{ReportLine, header, verdict_done, verdict_impossible, verdict_spent, conflicts, best_none, count, border, run, sweep, smaller_none, refutes, step, end_line, line_kind}
 use Rattle.vss_report.specs.Places.{kinds_at, behind_runs, place_after, IsAmong, LinesLead}
 use Rattle.vss_report.specs.declared.kind.Kind.TheVariants as kind
 use Rattle.vss_report.specs.declared.place.Place.{Place}
@@ -51,7 +51,7 @@ at_sweep End (suc k) is = cc
 at_sweep Finished k is = cc
 
 -- before a line that leads into a run stands a run, or it begins one
-step_in : (from : Place) (l : ReportLine) → IsAmong (kinds_at from) (kind_of l) → IsInRun (place_after from l) → IsInRun from ⊎ (0 < runs_begun (l ∷ []))
+step_in : (from : Place) (l : ReportLine) → IsAmong (kinds_at from) (line_kind l) → IsInRun (place_after from l) → IsInRun from ⊎ (0 < runs_begun (l ∷ []))
 step_in from header among in_run = absurd in_run
 step_in from verdict_done among in_run = absurd in_run
 step_in from verdict_impossible among in_run = absurd in_run

@@ -13,7 +13,7 @@ use Rattle.derivation_log.specs.declared.step.Bound.{Bound}
 use Rattle.derivation_log.specs.declared.step.Refutation.{Refutation}
 use Rattle.vss_text.specs.Lines.{lines_of}
 use Rattle.vss_text.specs.Reading.{NeverBegins}
-use Rattle.vss_report.specs.Lines.{ReportLine, sweep, refutes, step, kind_of, line_text, full_text, text_of_lines, IsSpelled}
+use Rattle.vss_report.specs.Lines.{ReportLine, sweep, refutes, step, line_kind, line_text, full_text, text_of_lines, IsSpelled}
 use Rattle.vss_report.specs.Places.{place_after, kinds_at, MayStand, LinesLead, EndsReport}
 use Rattle.vss_report.specs.Faults.{IsWrongHere, IsBadLine}
 use Rattle.vss_report.specs.Readings.{IsFound, SaysLine}
@@ -74,7 +74,7 @@ wrong_behind bytes number rest read some =
     subst (λ n. IsBadLine bytes n) (sym read.counted) (wrong_line Start Finished bytes rest read.lines read.read some (nothing rest))
   where
     nothing : (rest : List ℕ) → NeverBegins (MayStand Finished) full_text rest
-    nothing rest l more after fits same = let never : slice_get (kinds_at Finished) fits.among.place ≡ Some (kind_of l) = fits.among.is_there in cc
+    nothing rest l more after fits same = let never : slice_get (kinds_at Finished) fits.among.place ≡ Some (line_kind l) = fits.among.is_there in cc
 
 pub is_report : (bytes : List ℕ) (number : ℕ) (rest : List ℕ) → IsReadTo bytes number Finished rest → length rest ≡ 0 → EndsReport Start bytes
 is_report bytes number [] read none = record { lines = read.lines; leads = read.read.leads; spelled = read.read.spelled; text = read.read.so_far ∙ append-nil (text_of_lines read.lines) }

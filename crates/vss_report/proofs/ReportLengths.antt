@@ -1,5 +1,5 @@
 -- A report has no more lines than bytes.
-use Rattle.std.proofs.Common.{◌≡◌, ◌≤◌, ℕ, List, [], ◌∷◌, length, ap, arith, length-append}
+use Rattle.std.proofs.Common.{◌≤◌, ℕ, List, [], ◌∷◌, length, ap, arith, length-append}
 use Rattle.vss_report.specs.Lines.{ReportLine, header, verdict_done, verdict_impossible, verdict_spent, conflicts, best_none, count, border, run, sweep, smaller_none, refutes, step, end_line, full_text, text_of_lines}
 use Rattle.vss_report.specs.Refutations.{steps_of_lines, StatesRefutation}
 use Rattle.vss_report.proofs.RefutationLemmas.{some_text}

@@ -11,7 +11,7 @@ use Rattle.vss_text.specs.declared.miss.Miss.TheVariants.{Short, Wrong}
 use Rattle.vss_report.specs.Fits.{IsKnownCell}
 use Rattle.vss_report.specs.Found.{IsTextOfCells, IsCellsText}
 use Rattle.vss_report.specs.Lines.{CellName, cell_text, spaced, IsSpelledCell}
-use Rattle.vss_report.specs.Names.{cell_named, IsCellOf}
+use Rattle.vss_report.specs.Names.{cell_named, IsNamedCell}
 use Rattle.vss_report.proofs.LineReadings.{cell_read_once, cells_once}
 
 -- the first cells of the text are found, and these are left
@@ -62,7 +62,7 @@ push : (done others : List CellName) (cell : CellName) → done ++ (cell ∷ oth
 push done others cell = sym (append_assoc done (cell ∷ []) others)
 
 pub AreFound-more : (labels : Labels) (text rest behind : List ℕ) (found : List DirCell) (name : CellName) (d : DirCell) → AreFound labels text rest found → 0 < length rest
-    → IsSpelledCell name → drop 1 rest ≡ cell_text name ++ behind → IsCellOf labels name d → AreFound labels text behind (found ++ d ∷ [])
+    → IsSpelledCell name → drop 1 rest ≡ cell_text name ++ behind → IsNamedCell labels name d → AreFound labels text behind (found ++ d ∷ [])
 AreFound-more labels text rest behind found name d before some spelled read is_cell =
     let next = next_cell rest before.later some before.rest_is in
     let same = same_next rest behind before.later name next before.left spelled read in
@@ -110,14 +110,14 @@ all_found labels text rest found none before cells is_text = (before.named ∙ (
 
 -- one of the cells is none of the scene
 pub one_unknown : (labels : Labels) (text rest behind : List ℕ) (found : List DirCell) (name : CellName) → AreFound labels text rest found → 0 < length rest
-    → IsSpelledCell name → drop 1 rest ≡ cell_text name ++ behind → ((d : DirCell) → ¬ IsCellOf labels name d) → (cells : List CellName) → IsTextOfCells text cells → ¬ All (IsKnownCell labels) cells
+    → IsSpelledCell name → drop 1 rest ≡ cell_text name ++ behind → ((d : DirCell) → ¬ IsNamedCell labels name d) → (cells : List CellName) → IsTextOfCells text cells → ¬ All (IsKnownCell labels) cells
 one_unknown labels text rest behind found name before some spelled read none cells is_text known =
     let next = next_cell rest before.later some before.rest_is in
     let same = same_next rest behind before.later name next before.left spelled read in
     let all : before.done ++ before.later ≡ cells = cells_once (before.done ++ before.later) cells before.is_text.spelled is_text.spelled (sym before.is_text.are ∙ is_text.are) in
     let here : before.done ++ (next.cell ∷ next.others) ≡ cells = ap (λ cells. before.done ++ cells) (sym next.is) ∙ all in
     let is_known : IsKnownCell labels next.cell = at_seam before.done next.others next.cell (subst (All (IsKnownCell labels)) (sym here) known) in
-    none is_known.cell (subst (λ n. IsCellOf labels n is_known.cell) (sym same.0) is_known.is_cell)
+    none is_known.cell (subst (λ n. IsNamedCell labels n is_known.cell) (sym same.0) is_known.is_cell)
   where
     at_seam : (done others : List CellName) (cell : CellName) → All (IsKnownCell labels) (done ++ (cell ∷ others)) → IsKnownCell labels cell
     at_seam [] others cell all = All-head (IsKnownCell labels) cell others all

@@ -5,12 +5,12 @@ use Rattle.cell_net.specs.declared.ids.CandidateId.{CandidateId}
 use Rattle.cell_net.specs.declared.labels.Labels.{Labels}
 use Rattle.vss_report.specs.Designs.{has_design, borders_in, runs_begun}
 use Rattle.vss_report.specs.Lines.{ReportLine, CellName, PlaceName, border, run, sweep, smaller_none, refutes, end_line}
-use Rattle.vss_report.specs.Names.{IsCellOf, IsPlaceOf}
+use Rattle.vss_report.specs.Names.{IsNamedCell, IsPlaceOf}
 
 -- the scene has a cell of that name
 pub record IsKnownCell (labels : Labels) (name : CellName) : Type 0 where
   pub cell : DirCell
-  pub is_cell : IsCellOf labels name cell
+  pub is_cell : IsNamedCell labels name cell
 
 -- the scene has no place of that name, no train
 abbrev pub IsUnknownPlace : Labels → PlaceName → Type 0

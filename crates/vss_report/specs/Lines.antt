@@ -40,21 +40,21 @@ pub data ReportLine : Type 0 where
   step : Step → ReportLine
   end_line : ReportLine
 
-abbrev pub kind_of : ReportLine → Kind
-kind_of header = kind.Header
-kind_of verdict_done = kind.Done
-kind_of verdict_impossible = kind.Impossible
-kind_of verdict_spent = kind.Spent
-kind_of (conflicts n) = kind.Conflicts
-kind_of best_none = kind.BestNone
-kind_of (count n) = kind.Count
-kind_of (border place) = kind.Border
-kind_of (run train start) = kind.Run
-kind_of (sweep cells) = kind.Sweep
-kind_of smaller_none = kind.SmallerNone
-kind_of (refutes bound) = kind.Refutes
-kind_of (step s) = kind.Step
-kind_of end_line = kind.End
+abbrev pub line_kind : ReportLine → Kind
+line_kind header = kind.Header
+line_kind verdict_done = kind.Done
+line_kind verdict_impossible = kind.Impossible
+line_kind verdict_spent = kind.Spent
+line_kind (conflicts n) = kind.Conflicts
+line_kind best_none = kind.BestNone
+line_kind (count n) = kind.Count
+line_kind (border place) = kind.Border
+line_kind (run train start) = kind.Run
+line_kind (sweep cells) = kind.Sweep
+line_kind smaller_none = kind.SmallerNone
+line_kind (refutes bound) = kind.Refutes
+line_kind (step s) = kind.Step
+line_kind end_line = kind.End
 
 -- a train in a cell heads to its high end or to its low end
 abbrev pub sign : End → List ℕ

@@ -36,7 +36,7 @@ abbrev pub place_named : Labels → CandidateId → PlaceName
 place_named labels candidate = labelled_place labels (slice_get labels.places candidate.0)
 
 -- the directed cell is the one of that name
-pub record IsCellOf (labels : Labels) (name : CellName) (d : DirCell) : Type 0 where
+pub record IsNamedCell (labels : Labels) (name : CellName) (d : DirCell) : Type 0 where
   pub within : d.cell.0 < length labels.cells
   pub named : cell_named labels d ≡ name
 

@@ -1,6 +1,6 @@
 -- Which lines may stand at a place of a report, and the place behind each.
 use Rattle.std.specs.Prelude.{◌≡◌, ℕ, zero, suc, ◌++◌, Bool, true, false, List, [], ◌∷◌, All, Some, slice_get}
-use Rattle.vss_report.specs.Lines.{ReportLine, header, verdict_done, verdict_impossible, verdict_spent, conflicts, best_none, count, border, run, sweep, smaller_none, refutes, step, end_line, kind_of, text_of_lines, IsSpelled}
+use Rattle.vss_report.specs.Lines.{ReportLine, header, verdict_done, verdict_impossible, verdict_spent, conflicts, best_none, count, border, run, sweep, smaller_none, refutes, step, end_line, line_kind, text_of_lines, IsSpelled}
 use Rattle.vss_report.specs.declared.kind.Kind.{Kind}
 use Rattle.vss_report.specs.declared.kind.Kind.TheVariants as kind
 use Rattle.vss_report.specs.declared.place.Place.{Place}
@@ -64,12 +64,12 @@ pub record IsAmong {X : Type 0} (items : List X) (item : X) : Type 0 where
 -- the line may stand at the place
 pub record MayStand (from : Place) (l : ReportLine) : Type 0 where
   pub spelled : IsSpelled l
-  pub among : IsAmong (kinds_at from) (kind_of l)
+  pub among : IsAmong (kinds_at from) (line_kind l)
 
 -- the lines may stand one behind the other from the one place to the other
 abbrev pub LinesLead : Place → List ReportLine → Place → Type 0
 LinesLead from [] to = from ≡ to
-LinesLead from (l ∷ lines) to = IsAmong (kinds_at from) (kind_of l) × LinesLead (place_after from l) lines to
+LinesLead from (l ∷ lines) to = IsAmong (kinds_at from) (line_kind l) × LinesLead (place_after from l) lines to
 
 -- the bytes are lines that lead from the place to the end of a report
 pub record EndsReport (from : Place) (bytes : List ℕ) : Type 0 where

@@ -2,7 +2,7 @@
 use Rattle.std.specs.Prelude.{◌≡◌, ◌<◌, ◌++◌, ℕ, List, [], ◌∷◌, All, length}
 use Rattle.std.specs.List.{flat_map}
 use Rattle.derivation_log.specs.Tested.{IsTextOf}
-use Rattle.vss_report.specs.Lines.{ReportLine, CellName, cut, joint, header, verdict_done, verdict_impossible, verdict_spent, conflicts, best_none, count, border, run, sweep, smaller_none, refutes, step, end_line, kind_of, spaced, full_text, IsSpelled, IsSpelledCell}
+use Rattle.vss_report.specs.Lines.{ReportLine, CellName, cut, joint, header, verdict_done, verdict_impossible, verdict_spent, conflicts, best_none, count, border, run, sweep, smaller_none, refutes, step, end_line, line_kind, spaced, full_text, IsSpelled, IsSpelledCell}
 use Rattle.vss_report.specs.declared.kind.Kind.{Kind}
 use Rattle.vss_report.specs.declared.read_line.ReadLine.{ReadLine}
 use Rattle.vss_report.specs.declared.read_line.ReadLine.TheVariants as read
@@ -29,7 +29,7 @@ SaysLine text l = ⊥
 -- a line of the kind
 pub record IsOfKind (kind : Kind) (l : ReportLine) : Type 0 where
   pub spelled : IsSpelled l
-  pub kind_is : kind_of l ≡ kind
+  pub kind_is : line_kind l ≡ kind
 
 -- such a line stands at the front of the text, and this follows
 pub record IsFound (P : ReportLine → Type 0) (text : List ℕ) (found : ReadLine) (rest : List ℕ) : Type 0 where
@@ -43,8 +43,8 @@ abbrev pub named : ℕ → List ℕ → List ℕ
 named end name = name ++ end ∷ []
 
 -- a word, and what stands behind it
-abbrev pub behind : {X : Type 0} → List ℕ → (X → List ℕ) → X → List ℕ
-behind word spelled x = word ++ spelled x
+abbrev pub with_word : {X : Type 0} → List ℕ → (X → List ℕ) → X → List ℕ
+with_word word spelled x = word ++ spelled x
 
 -- cells that a sweep may have
 abbrev pub AreSweepCells : List CellName → Type 0

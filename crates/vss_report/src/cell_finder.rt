@@ -22,7 +22,7 @@ impl CellFinder {
     ghost use Rattle.std.specs.Prelude.{IfSome, IfNone};
     ghost use Rattle.cell_net.specs.declared.cells.DirCell.{DirCell};
     ghost use Rattle.vss_report.specs.Found.{name_of_cell};
-    ghost use Rattle.vss_report.specs.Names.{IsCellOf};
+    ghost use Rattle.vss_report.specs.Names.{IsNamedCell};
 
     pub(crate) fn new() -> CellFinder {
         CellFinder {
@@ -44,8 +44,8 @@ impl CellFinder {
 
     /// The cell of that name. Linear in the cells where no guess is right.
     pub(crate) fn find(&mut self, scene: &Scene, cell: &NamedCell<'_>) -> Option<DirCell>
-        ensures found { IfSome result (IsCellOf scene.now.labels (name_of_cell cell.now)) }
-        ensures none { IfNone result ((d : DirCell) → ¬ IsCellOf scene.now.labels (name_of_cell cell.now) d) }
+        ensures found { IfSome result (IsNamedCell scene.now.labels (name_of_cell cell.now)) }
+        ensures none { IfNone result ((d : DirCell) → ¬ IsNamedCell scene.now.labels (name_of_cell cell.now) d) }
     {
         let slot = self.last as usize % GUESSES;
         let place = match guessed(&scene.labels, cell, self.behind[slot], self.last) {
@@ -63,11 +63,11 @@ impl CellFinder {
 
 ghost use Rattle.std.specs.Prelude.{◌<◌, ◌↔◌, ℕ, IfSome, IfNone, IsTrue, length};
 ghost use Rattle.vss_report.specs.Found.{name_of_cell, cell_at};
-ghost use Rattle.vss_report.specs.Names.{IsCellOf};
+ghost use Rattle.vss_report.specs.Names.{IsNamedCell};
 
 /// The cell of that name, if it is this one, or else stands as far from the last one as their numbers do.
 fn guessed(labels: &Labels, cell: &NamedCell<'_>, guess: u32, last: u32) -> Option<u32>
-    ensures { IfSome result (λ place. IsCellOf labels.now (name_of_cell cell.now) (cell_at place cell.now)) }
+    ensures { IfSome result (λ place. IsNamedCell labels.now (name_of_cell cell.now) (cell_at place cell.now)) }
 {
     if is_named(labels, guess, cell) {
         return Some(guess);
@@ -82,8 +82,8 @@ fn guessed(labels: &Labels, cell: &NamedCell<'_>, guess: u32, last: u32) -> Opti
 
 /// The cell of that name. Linear in the cells.
 fn search(scene: &Scene, cell: &NamedCell<'_>) -> Option<u32>
-    ensures found { IfSome result (λ place. IsCellOf scene.now.labels (name_of_cell cell.now) (cell_at place cell.now)) }
-    ensures none { IfNone result ((place : ℕ) → place < length scene.now.labels.cells → ¬ IsCellOf scene.now.labels (name_of_cell cell.now) (cell_at place cell.now)) }
+    ensures found { IfSome result (λ place. IsNamedCell scene.now.labels (name_of_cell cell.now) (cell_at place cell.now)) }
+    ensures none { IfNone result ((place : ℕ) → place < length scene.now.labels.cells → ¬ IsNamedCell scene.now.labels (name_of_cell cell.now) (cell_at place cell.now)) }
 {
     for place in 0..scene.inst.cell_count() {
         if is_named(&scene.labels, place, cell) {
@@ -95,7 +95,7 @@ fn search(scene: &Scene, cell: &NamedCell<'_>) -> Option<u32>
 
 /// Whether the cell of that number has the name.
 fn is_named(labels: &Labels, place: u32, cell: &NamedCell<'_>) -> bool
-    ensures { IsTrue result ↔ IsCellOf labels.now (name_of_cell cell.now) (cell_at place cell.now) }
+    ensures { IsTrue result ↔ IsNamedCell labels.now (name_of_cell cell.now) (cell_at place cell.now) }
 {
     match labels.cells.get(place as usize) {
         Some(label) => {

@@ -1,5 +1,5 @@
 //! The cells of a sweep.
-ghost use Rattle.std.specs.Prelude.{◌≡◌, ◌++◌, ◌∷◌, IfOk, IfErr};
+ghost use Rattle.std.specs.Prelude.{◌≡◌, ◌++◌, IfOk, IfErr};
 ghost use Rattle.vss_report.specs.Lines.{cell_text, IsSpelledCell};
 ghost use Rattle.vss_report.specs.Readings.{AreSweepCells, cells_line, HasCells};
 ghost use Rattle.vss_text.specs.Reading.{Misses};

@@ -1,5 +1,5 @@
 //! The next line of a report, or the fault that stands there.
-ghost use Rattle.std.specs.Prelude.{◌≡◌, ◌≢◌, ◌+◌, ◌^◌, ◌<◌, IfOk, IfErr};
+ghost use Rattle.std.specs.Prelude.{◌≢◌, ◌+◌, ◌^◌, ◌<◌, IfOk, IfErr};
 ghost use Rattle.vss_report.specs.Faults.{IsWrongHere};
 ghost use Rattle.vss_report.specs.Places.{MayStand};
 ghost use Rattle.vss_report.specs.Readings.{IsFound};

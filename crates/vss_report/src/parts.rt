@@ -1,7 +1,7 @@
 //! The parts of lines: a name, or words with a name or a number behind them.
-ghost use Rattle.std.specs.Prelude.{◌≡◌, ◌++◌, ◌∷◌, [], false, decimal, IfOk, IfErr};
+ghost use Rattle.std.specs.Prelude.{◌≡◌, ◌++◌, ◌∷◌, false, decimal, IfOk, IfErr};
 ghost use Rattle.vss_names.specs.Names.{IsName, is_name_byte as is_plain_byte};
-ghost use Rattle.vss_report.specs.Readings.{named, behind};
+ghost use Rattle.vss_report.specs.Readings.{named, with_word};
 ghost use Rattle.vss_text.specs.Numbers.{IsShort, ended};
 ghost use Rattle.vss_text.specs.Reading.{Misses, Both, both_spelled};
 
@@ -34,7 +34,7 @@ pub(crate) fn name(text: &[u8], end: u8) -> Result<(&[u8], &[u8]), Miss>
 pub(crate) fn numbered<'a>(text: &'a [u8], words: &[u8]) -> Result<(u32, &'a [u8]), Miss>
     ensures short { IfOk result (λ found. IsShort found.0) }
     ensures found { IfOk result (λ found. text.now ≡ words.now ++ (decimal found.0 ++ 10 ∷ found.1.now)) }
-    ensures missed { IfErr result (Misses IsShort (behind words.now (ended 10)) text.now) }
+    ensures missed { IfErr result (Misses IsShort (with_word words.now (ended 10)) text.now) }
 {
     let rest = match after(text, words) {
         Ok(rest) => rest,
@@ -50,7 +50,7 @@ pub(crate) fn numbered<'a>(text: &'a [u8], words: &[u8]) -> Result<(u32, &'a [u8
 pub(crate) fn worded<'a>(text: &'a [u8], words: &[u8]) -> Result<(&'a [u8], &'a [u8]), Miss>
     ensures fits { IfOk result (λ found. IsName found.0.now) }
     ensures found { IfOk result (λ found. text.now ≡ words.now ++ (found.0.now ++ 10 ∷ found.1.now)) }
-    ensures missed { IfErr result (Misses IsName (behind words.now (named 10)) text.now) }
+    ensures missed { IfErr result (Misses IsName (with_word words.now (named 10)) text.now) }
 {
     let rest = match after(text, words) {
         Ok(rest) => rest,
@@ -77,7 +77,7 @@ pub(crate) fn named_number<'a>(
     ensures name { IfOk result (λ found. IsName found.0.name.now) }
     ensures short { IfOk result (λ found. IsShort found.0.number) }
     ensures found { IfOk result (λ found. text.now ≡ words.now ++ (found.0.name.now ++ 32 ∷ (decimal found.0.number ++ 10 ∷ found.1.now))) }
-    ensures missed { IfErr result (Misses (Both IsName IsShort) (behind words.now (both_spelled (named 32) (ended 10))) text.now) }
+    ensures missed { IfErr result (Misses (Both IsName IsShort) (with_word words.now (both_spelled (named 32) (ended 10))) text.now) }
 {
     let rest = match after(text, words) {
         Ok(rest) => rest,

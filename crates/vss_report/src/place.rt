@@ -1,7 +1,7 @@
 //! The places of a report: which lines may stand there.
 ghost use Rattle.std.specs.Prelude.{◌≡◌, ◌↔◌, IsTrue};
 ghost use Rattle.vss_report.specs.Lines.{ReportLine};
-ghost use Rattle.vss_report.specs.Places.{behind_runs, kinds_at, is_done, left_at, place_after};
+ghost use Rattle.vss_report.specs.Places.{kinds_at, is_done, left_at, place_after};
 ghost use Rattle.vss_report.specs.Readings.{SaysLine};
 
 use crate::kind::Kind;

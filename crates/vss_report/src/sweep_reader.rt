@@ -1,5 +1,5 @@
 //! The sweep of a line.
-ghost use Rattle.std.specs.Prelude.{◌≡◌, IfOk};
+ghost use Rattle.std.specs.Prelude.{IfOk};
 ghost use Rattle.vss_report.specs.Found.{IsCellsText, IsSweepOf};
 
 use crate::cell_finder::CellFinder;

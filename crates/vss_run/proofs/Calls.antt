@@ -2,7 +2,7 @@
 use Rattle.std.proofs.Common.{◌≡◌, ◌≢◌, ℕ, List, Result, Ok, Err, IsTrue, Bool, false, refl, sym, ap, subst}
 use Rattle.vss_io.specs.Shown.{Files, Output}
 use Rattle.vss_io.specs.Written.{followed_by}
-use Rattle.vss_stages.specs.Stages.{Then, goes_on, stops, Ends as EndsStage, IsSettled}
+use Rattle.vss_stages.specs.Stages.{goes_on, stops, Ends as EndsStage, IsSettled}
 use Rattle.vss_stages.specs.declared.stop.Stop.{Stop}
 use Rattle.vss_stages.specs.declared.stop.Stop.TheVariants as stop
 use Rattle.vss_stages.proofs.StageLaws.{then_maps}

@@ -1,5 +1,5 @@
 -- Written reports are read back, since words and files decide.
-use Rattle.std.proofs.Common.{ℕ, List, length, Ok, IsTrue}
+use Rattle.std.proofs.Common.{ℕ, List, length, Ok}
 use Rattle.vss_io.specs.Shown.{Files, Output}
 use Rattle.vss_answers.specs.declared.answer.Answer.TheVariants.{Lawful, Proved}
 use Rattle.vss_answers.specs.declared.status.Status.{Status}

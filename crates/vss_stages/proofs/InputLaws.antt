@@ -1,5 +1,5 @@
 -- Files that are read, one after another, for the proofs of crates above.
-use Rattle.std.proofs.Common.{◌≡◌, ◌≤◌, ℕ, List, Option, Some, Result, Ok, Err, IsTrue, length, refl, sym, ap, subst, ◌∙◌, arith}
+use Rattle.std.proofs.Common.{◌≤◌, ℕ, List, Option, Some, Result, Ok, Err, IsTrue, length, refl, sym, ap, subst, ◌∙◌, arith}
 use Rattle.std.proofs.lemmas.Option.{same_Some}
 use Rattle.vss_io.specs.Faults.{Rose}
 use Rattle.vss_io.specs.Reading.{IsLongerThan, Keeps}

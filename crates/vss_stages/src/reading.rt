@@ -1,6 +1,6 @@
 //! The stage that reads a file.
 
-ghost use Rattle.std.specs.Prelude.{◌≡◌, [], ◌∷◌};
+ghost use Rattle.std.specs.Prelude.{[], ◌∷◌};
 ghost use Rattle.vss_io.specs.Reading.{Keeps};
 ghost use Rattle.vss_stages.specs.Stages.{Ends};
 ghost use Rattle.vss_stages.specs.Inputs.{IsRead};

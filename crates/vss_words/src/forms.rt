@@ -1,7 +1,7 @@
 //! The form of each task's words, as a command that `clap` reads them by.
 
 ghost use Rattle.std.specs.Prelude.{◌≡◌, IfOk, true, false};
-ghost use Rattle.clap.specs.Words.{app_of, with_rule, rule_of, is_simple_and_free};
+ghost use Rattle.clap.specs.Words.{app_of, rule_of};
 ghost use Rattle.vss_words.specs.Forms.{form, place, option, with_documents, with_case, with_budget};
 
 use crate::task::Task;

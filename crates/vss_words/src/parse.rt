@@ -1,6 +1,6 @@
 //! What `clap` finds in words.
 
-ghost use Rattle.std.specs.Prelude.{◌≡◌, Some, true, map, option_map, string_bytes};
+ghost use Rattle.std.specs.Prelude.{◌≡◌, true, map, option_map, string_bytes};
 ghost use Rattle.clap.specs.Words.{app_of, found_of, first_of, is_simple_and_free, rows_of};
 ghost use Rattle.vss_words.specs.Commands.{rows_given, ReadsAs};
 

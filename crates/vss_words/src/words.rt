@@ -1,6 +1,6 @@
 //! The command that words ask for.
 
-ghost use Rattle.std.specs.Prelude.{◌≡◌, IfOk, IsErrOf, map, string_bytes};
+ghost use Rattle.std.specs.Prelude.{IfOk, IsErrOf, map, string_bytes};
 ghost use Rattle.vss_words.specs.Commands.{ReadsAs, command};
 ghost use Rattle.vss_words.specs.Commands.{HasInRange, NamesTask};
 

@@ -1,12 +1,12 @@
 -- Live clauses of which some are dropped, and the state that this leaves.
-use Rattle.std.proofs.Common.{◌≡◌, ◌≢◌, ℕ, zero, suc, ◌+◌, ◌-◌, ◌*◌, ◌^◌, ◌<◌, ◌≤◌, Bool, true, false, cond, not, ◌&&◌, ◌||◌, ◌⊎◌, inl, inr, List, [], ◌∷◌, ◌++◌, length, take, drop, get_or, refl, ap, sym, subst, ◌∙◌, arith}
+use Rattle.std.proofs.Common.{◌≡◌, ◌≢◌, ℕ, zero, suc, ◌+◌, ◌*◌, ◌^◌, ◌<◌, ◌≤◌, Bool, true, false, not, ◌&&◌, ◌||◌, inl, inr, List, [], ◌∷◌, ◌++◌, length, take, drop, get_or, refl, ap, sym, subst, ◌∙◌, arith}
 use Rattle.std.specs.Prelude.{IsTrue, IsSome, is_some, nat_eq, filter, find, option_map, All, AllPairs, Any, Contains, Option, Some, None}
 use Rattle.std.specs.List.{list_any}
 use Rattle.std.proofs.Math.Nat.{pow-suc}
 use Rattle.std.proofs.lemmas.Bool.{cases_eq, ne_eqb, eqb-true}
-use Rattle.std.proofs.lemmas.List.{length-append, take-append-drop, length-take-le, take-append-le, take_all}
+use Rattle.std.proofs.lemmas.List.{length-append, take-append-drop, length-take-le, take_all}
 use Rattle.std.proofs.lemmas.List.Kept.{AllPairs-filter}
-use Rattle.std.proofs.lemmas.List.Elements.{All-nil, All-cons, All-head, All-tail, All-filter, filter-append}
+use Rattle.std.proofs.lemmas.List.Elements.{All-nil, All-head, All-tail, All-filter, filter-append}
 use Rattle.sat_core.specs.declared.literal.Lit.{Lit}
 use Rattle.sat_core.specs.declared.literal.ClauseId.{ClauseId}
 use Rattle.sat_core.specs.Hints.{NumberedClause, clause_of}
@@ -15,8 +15,7 @@ use Rattle.sat_core.specs.Search.{Event, gives, derives, Search, search_of, afte
 use Rattle.sat_core.proofs.SearchLaws.{log_of-append, units_of-append}
 use Rattle.search_trail.specs.declared.entry.Entry.{Entry}
 use Rattle.search_trail.specs.Trails.{TrailParts}
-use Rattle.search_trail.specs.Reasons.{AreReasons, IsReason}
-use Rattle.solver_face.specs.Solving.{Solving, IsSound, search_now, taken, AddNoEmptyClause}
+use Rattle.solver_face.specs.Solving.{Solving, search_now, AddNoEmptyClause}
 use Rattle.solver_face.proofs.SolvingLaws.{sound_more}
 use Rattle.watch_store.specs.Fits.{StoreParts, FitsTrail, AreShortTrue}
 use Rattle.watch_solver.specs.declared.state.State.{State}

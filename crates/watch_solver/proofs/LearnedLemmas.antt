@@ -1,8 +1,8 @@
 -- What a learned clause leaves: behind going back to its level it fits the trail, and the state keeps what holds of it.
 use Rattle.std.proofs.Common.{◌≡◌, ◌≢◌, ℕ, suc, ◌+◌, ◌-◌, ◌<◌, ◌≤◌, true, false, ◌⊎◌, inl, inr, List, [], ◌∷◌, ◌++◌, length, get_or, refl, ap, sym, subst, ◌∙◌, arith}
-use Rattle.std.specs.Prelude.{All, Any, Contains, Option, Some, None, Ok, Err}
+use Rattle.std.specs.Prelude.{Any, Option, Some, None}
 use Rattle.std.proofs.lemmas.Bool.{cases_eq, cases_lt}
-use Rattle.std.proofs.lemmas.List.{drop_all, length_push, get_or-take, get_or_default, length-take-le}
+use Rattle.std.proofs.lemmas.List.{length_push, get_or-take, get_or_default, length-take-le}
 use Rattle.std.proofs.lemmas.List.Elements.{All-push}
 use Rattle.sat_core.specs.declared.literal.Lit.{Lit}
 use Rattle.sat_core.specs.declared.literal.ClauseId.{ClauseId}
@@ -13,8 +13,7 @@ use Rattle.sat_core.specs.Hints.{NumberedClause, is_known}
 use Rattle.sat_core.specs.Search.{Event, derives, after_event, IsLearned, log_of}
 use Rattle.sat_core.proofs.SearchLaws.{log_of-append}
 use Rattle.search_trail.specs.declared.entry.Entry.{Entry}
-use Rattle.search_trail.specs.Trails.{TrailParts, IsTrail, IsCut, known_of, up_to, assigned}
-use Rattle.search_trail.proofs.TrailLaws.{IsTrail-cut}
+use Rattle.search_trail.specs.Trails.{TrailParts, IsTrail, IsCutBack, known_of, up_to, assigned}
 use Rattle.search_trail.proofs.LevelLaws.{up_to-same, all_up_to, up_to-from}
 use Rattle.conflict_learn.specs.Learning.{IsLearnedFrom, IsAsserting}
 use Rattle.conflict_learn.proofs.FreshLaws.{IsUnitUnder-learned}
@@ -29,18 +28,18 @@ use Rattle.watch_store.proofs.LiveLaws.{AreShortTrue-inserted}
 use Rattle.watch_solver.specs.declared.state.State.{State}
 use Rattle.watch_solver.specs.Running.{watch_solving, first_clauses, LogEnds, DropPlaceTells, AreLiveOf, ClashTells, IsRunning, IsWatchState, IsLearnedStep}
 use Rattle.watch_solver.proofs.LiveLemmas.{pushed_live}
-use Rattle.watch_solver.proofs.SearchLemmas.{vars_now, formula_now, next_search, taken_added, live_added, learned_next}
-use Rattle.watch_solver.proofs.SeatLemmas.{IsSeated, short_grown, conflict_grown, cut_bottom}
+use Rattle.watch_solver.proofs.SearchLemmas.{vars_now, formula_now, next_search, numbers_used_added, live_added, learned_next}
+use Rattle.watch_solver.proofs.SeatLemmas.{short_grown}
 use Rattle.watch_solver.proofs.StateLemmas.{formula_alike, formula_inserted}
 
 -- ---- what was learned, after going back to its level
-pub known_cut : (t t1 : TrailParts) (level : ℕ) → IsCut level t.entries t1.entries → known_of t1.entries ≡ up_to level t.entries
+pub known_cut : (t t1 : TrailParts) (level : ℕ) → IsCutBack level t.entries t1.entries → known_of t1.entries ≡ up_to level t.entries
 known_cut t t1 level cut = sym (all_up_to level t1.entries cut.kept) ∙ up_to-same level level t.entries t1.entries cut (omega arith)
 
-pub unit_cut : (t t1 : TrailParts) (lits : List Lit) (level : ℕ) (head : IsAsserting t lits level) → IsTrail t → IsCut level t.entries t1.entries → IsUnitUnder (known_of t1.entries) lits head.lit
+pub unit_cut : (t t1 : TrailParts) (lits : List Lit) (level : ℕ) (head : IsAsserting t lits level) → IsTrail t → IsCutBack level t.entries t1.entries → IsUnitUnder (known_of t1.entries) lits head.lit
 unit_cut t t1 lits level head laws cut = subst (λ known. IsUnitUnder known lits head.lit) (sym (known_cut t t1 level cut)) (IsUnitUnder-learned t lits level head laws)
 
-entry_cut : (t t1 : TrailParts) (level place : ℕ) (lit : Lit) → IsCut level t.entries t1.entries → t1.present ≡ level → place < length t.entries → ((d : Entry) → ((get_or t.entries place d).lit ≡ lit) × ((get_or t.entries place d).level ≡ level)) → Any (λ e. (e.lit ≡ lit) × (e.level ≡ t1.present)) t1.entries
+entry_cut : (t t1 : TrailParts) (level place : ℕ) (lit : Lit) → IsCutBack level t.entries t1.entries → t1.present ≡ level → place < length t.entries → ((d : Entry) → ((get_or t.entries place d).lit ≡ lit) × ((get_or t.entries place d).level ≡ level)) → Any (λ e. (e.lit ≡ lit) × (e.level ≡ t1.present)) t1.entries
 entry_cut t t1 level place lit cut present within at =
     let d : Entry = record { lit = lit; reason = None; level = 0 } in
     let long : length t1.entries ≡ cut.size = ap length cut.front ∙ length-take-le cut.size t.entries cut.within in
@@ -52,7 +51,7 @@ entry_cut t t1 level place lit cut present within at =
           (place, e, omega (arith, kept, long), same, ((at d).0, (at d).1 ∙ sym present))
     ]
 
-latest_cut : (t t1 : TrailParts) (level : ℕ) (lits : List Lit) (head : IsAsserting t lits level) → IsCut level t.entries t1.entries → t1.present ≡ level → 2 ≤ length lits → Any (λ other. Any (λ e. (e.lit ≡ negated other) × (e.level ≡ t1.present)) t1.entries) lits
+latest_cut : (t t1 : TrailParts) (level : ℕ) (lits : List Lit) (head : IsAsserting t lits level) → IsCutBack level t.entries t1.entries → t1.present ≡ level → 2 ≤ length lits → Any (λ other. Any (λ e. (e.lit ≡ negated other) × (e.level ≡ t1.present)) t1.entries) lits
 latest_cut t t1 level lits head cut present many =
     subst (λ ls. Any (λ other. Any (λ e. (e.lit ≡ negated other) × (e.level ≡ t1.present)) t1.entries) ls) (sym head.is)
     (elim head.greatest [
@@ -67,7 +66,7 @@ latest_cut t t1 level lits head cut present many =
           (suc any.0, any.1, omega (arith, any.2), any.3, entry_cut t t1 level e.0 (negated any.1) cut present e.2 (λ d. (ap (λ (x : Entry). x.lit) (get_or_default t.entries e.0 d e.1 e.2 ∙ e.3) ∙ e.4.0, ap (λ (x : Entry). x.level) (get_or_default t.entries e.0 d e.1 e.2 ∙ e.3) ∙ e.4.1)))
     ])
 
-pub watchable_cut : (t t1 : TrailParts) (lits : List Lit) (hints : List ClauseId) (live : List NumberedClause) (level : ℕ) → IsTrail t → IsLearnedFrom live t lits hints level → lits ≢ [] → IsCut level t.entries t1.entries → t1.present ≡ level → 2 ≤ length lits → HasTwoNotFalse (known_of t1.entries) lits ⊎ IsUnitNow t1 lits
+pub watchable_cut : (t t1 : TrailParts) (lits : List Lit) (hints : List ClauseId) (live : List NumberedClause) (level : ℕ) → IsTrail t → IsLearnedFrom live t lits hints level → lits ≢ [] → IsCutBack level t.entries t1.entries → t1.present ≡ level → 2 ≤ length lits → HasTwoNotFalse (known_of t1.entries) lits ⊎ IsUnitNow t1 lits
 watchable_cut t t1 lits hints live level laws learned some cut present many = elim (cases_eq t.present 0) [
   | inl bottom ↦ absurd (some (learned.at_zero bottom))
   | inr above ↦
@@ -75,7 +74,7 @@ watchable_cut t t1 lits hints live level laws learned some cut present many = el
       inr (record { lit = head.lit; unit = unit_cut t t1 lits level head laws cut; latest = latest_cut t t1 level lits head cut present many })
 ]
 
-pub first_unit : (t t1 : TrailParts) (lits : List Lit) (hints : List ClauseId) (live : List NumberedClause) (level : ℕ) (lit : Lit) → IsTrail t → IsLearnedFrom live t lits hints level → lits ≢ [] → get_or lits 0 lit ≡ lit → IsCut level t.entries t1.entries → IsUnitUnder (known_of t1.entries) lits lit
+pub first_unit : (t t1 : TrailParts) (lits : List Lit) (hints : List ClauseId) (live : List NumberedClause) (level : ℕ) (lit : Lit) → IsTrail t → IsLearnedFrom live t lits hints level → lits ≢ [] → get_or lits 0 lit ≡ lit → IsCutBack level t.entries t1.entries → IsUnitUnder (known_of t1.entries) lits lit
 first_unit t t1 lits hints live level lit laws learned some is cut = elim (cases_eq t.present 0) [
   | inl bottom ↦ absurd (some (learned.at_zero bottom))
   | inr above ↦
@@ -138,7 +137,7 @@ refuted_state s n id lits hints level state open_yet number none learned store g
     let formula : first_clauses n.given n.store.live ≡ first_clauses s.given s.store.live = formula_alike s n (ap (λ x. x.live) store) given in (
       record {
         sound = sound_more old new (derives (adds id lits hints)) state.sound (next_learned s id lits hints level run number learned) vars formula history;
-        numbers = last ∙ (ap (λ k. k + 1) state.numbers ∙ sym (taken_added old new id lits hints formula history));
+        numbers = last ∙ (ap (λ k. k + 1) state.numbers ∙ sym (numbers_used_added old new id lits hints formula history));
         log_ends = subst (λ b. LogEnds b (log_of n.history)) (sym refuted) (subst EndsInEmptyClause (sym (log_more s.history n.history id lits hints history)) (ends_empty (log_of s.history) id lits hints none));
         drop_place = subst DropPlaceTells (sym place) state.drop_place;
         running = λ still. absurd (Rattle.sat_core.proofs.OpenLaws.true_is_not_false (sym refuted ∙ still));
@@ -147,7 +146,7 @@ refuted_state s n id lits hints level state open_yet number none learned store g
     )
 
 -- a clause that isn't empty
-clash_learned : (old : Option ClauseId) (id : ClauseId) (lits : List Lit) (lit : Lit) (live more : List NumberedClause) (t t1 later : TrailParts) (level : ℕ) → IsInserted id lits live more → 0 < t.present → IsCut level t.entries t1.entries → t1.present ≡ level → later ≡ assigned t1 lit id → (length lits < 2 → level ≡ 0) → get_or lits 0 lit ≡ lit → lits ≢ [] → IsTrail later → ClashTells old live t → ClashTells old more later
+clash_learned : (old : Option ClauseId) (id : ClauseId) (lits : List Lit) (lit : Lit) (live more : List NumberedClause) (t t1 later : TrailParts) (level : ℕ) → IsInserted id lits live more → 0 < t.present → IsCutBack level t.entries t1.entries → t1.present ≡ level → later ≡ assigned t1 lit id → (length lits < 2 → level ≡ 0) → get_or lits 0 lit ≡ lit → lits ≢ [] → IsTrail later → ClashTells old live t → ClashTells old more later
 clash_learned (Some other) id lits lit live more t t1 later level inserted above cut present is bottom first some laws tells = absurd (omega (arith, above, tells.1))
 clash_learned None id lits lit live more t t1 later level inserted above cut present is bottom first some laws tells =
     AreShortTrue-inserted id lits live more later
@@ -180,7 +179,7 @@ learned_above live t lits hints level learned some = elim (cases_eq t.present 0)
 
 pub learned_state : (s n : State) (t1 : TrailParts) (id : ClauseId) (lits : List Lit) (hints : List ClauseId) (level : ℕ) (lit : Lit) → IsWatchState s → s.refuted ≡ false → id.0 ≡ s.last + 1 → lits ≢ [] → get_or lits 0 lit ≡ lit → IsLearnedFrom s.store.live s.trail lits hints level
     → n.store.vars ≡ s.store.vars → IsInserted id lits s.store.live n.store.live → n.given ≡ s.given → n.last ≡ s.last + 1 → n.history ≡ s.history ++ derives (adds id lits hints) ∷ [] → n.refuted ≡ s.refuted → n.clash ≡ s.clash → n.drop_at ≡ s.drop_at
-    → n.space ≡ s.space → length n.valuation.values ≡ length s.valuation.values → length n.stamps.items ≡ length s.stamps.items → FitsTrail n.store n.trail → OpenOnesWait n.order t1 → IsCut level s.trail.entries t1.entries → t1.present ≡ level → n.trail ≡ assigned t1 lit id → IsWatchState n × IsLearnedStep s n
+    → n.space ≡ s.space → length n.valuation.values ≡ length s.valuation.values → length n.stamps.items ≡ length s.stamps.items → FitsTrail n.store n.trail → OpenOnesWait n.order t1 → IsCutBack level s.trail.entries t1.entries → t1.present ≡ level → n.trail ≡ assigned t1 lit id → IsWatchState n × IsLearnedStep s n
 learned_state s n t1 id lits hints level lit state open_yet number some first learned vars inserted given last history refuted same_clash place space values stamps fits waiting cut present assigned_is =
     let run : IsRunning s = state.running open_yet in
     let old : Solving = watch_solving s false in
@@ -194,7 +193,7 @@ learned_state s n t1 id lits hints level lit state open_yet number some first le
     let none : AddNoEmptyClause (log_of s.history) = subst (λ b. LogEnds b (log_of s.history)) open_yet state.log_ends in (
       record {
         sound = sound_more old new step state.sound next vars formula history;
-        numbers = last ∙ (ap (λ k. k + 1) state.numbers ∙ sym (taken_added old new id lits hints formula history));
+        numbers = last ∙ (ap (λ k. k + 1) state.numbers ∙ sym (numbers_used_added old new id lits hints formula history));
         log_ends = subst (λ b. LogEnds b (log_of n.history)) (sym (refuted ∙ open_yet)) (subst AddNoEmptyClause (sym (log_more s.history n.history id lits hints history)) (adds_some (log_of s.history) id lits hints some none));
         drop_place = subst DropPlaceTells (sym place) state.drop_place;
         running = λ still. record {

@@ -8,7 +8,7 @@ use Rattle.sat_core.specs.Search.{log_of}
 use Rattle.solver_face.specs.declared.answer.Answer.{Answer}
 use Rattle.solver_face.specs.declared.answer.Answer.TheVariants as answer
 use Rattle.solver_face.specs.Solving.{IsSound, Searched, IsRefuted, AddNoEmptyClause}
-use Rattle.solver_face.proofs.SolvingLaws.{taken_grows, searched_on}
+use Rattle.solver_face.proofs.SolvingLaws.{numbers_used_grows, searched_on}
 use Rattle.watch_solver.specs.declared.state.State.{State}
 use Rattle.watch_solver.specs.Running.{watch_solving, first_clauses, LogEnds, IsWatchState, IsSeenAlike, still_to_do}
 use Rattle.watch_solver.proofs.StateLemmas.{alike_searched}
@@ -28,7 +28,7 @@ round_nearer s m n left state open_yet first longer second more =
 
 -- ---- the numbers suffice
 pub last_searched : (s n : State) (had left : ℕ) → IsWatchState s → IsWatchState n → Searched (watch_solving s false) (watch_solving n false) had left → n.last + left ≡ s.last + had
-last_searched s n had left before after searched = omega (arith, taken_grows (watch_solving s false) (watch_solving n false) had left searched, before.numbers, after.numbers)
+last_searched s n had left before after searched = omega (arith, numbers_used_grows (watch_solving s false) (watch_solving n false) had left searched, before.numbers, after.numbers)
 
 pub alike_on : (s m n : State) (had left : ℕ) → IsSound (watch_solving s false) → IsSeenAlike s m → Searched (watch_solving m false) (watch_solving n false) had left → Searched (watch_solving s false) (watch_solving n false) had left
 alike_on s m n had left sound alike searched =

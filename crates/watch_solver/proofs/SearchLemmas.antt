@@ -16,7 +16,7 @@ use Rattle.sat_core.proofs.SearchLaws.{after_events-append, units_given, units_o
 use Rattle.search_trail.specs.Trails.{TrailParts}
 use Rattle.conflict_learn.specs.Learning.{IsLearnedFrom}
 use Rattle.conflict_learn.proofs.FreshLaws.{IsFresh-learned}
-use Rattle.solver_face.specs.Solving.{Solving, IsSound, search_now, taken}
+use Rattle.solver_face.specs.Solving.{Solving, IsSound, search_now, numbers_used}
 use Rattle.watch_store.specs.Fits.{StoreParts, FitsTrail, AreShortTrue}
 use Rattle.watch_store.proofs.FitLaws.{closed_below}
 use Rattle.sat_core.proofs.LiveLaws.{clause_of-more}
@@ -67,18 +67,18 @@ same_sound a b vars formula events sound = record {
       (subst (λ (s : Search). Rattle.sat_core.specs.Search.AreNext s a.events) (sym (same_start b a vars formula)) sound.events);
 }
 
-pub same_taken : (a b : Solving) → b.formula ≡ a.formula → b.events ≡ a.events → taken b ≡ taken a
-same_taken a b formula events = ap (λ f. length f + length (units_of b.events) + adds_in (log_of b.events)) formula ∙ ap (λ e. length a.formula + length (units_of e) + adds_in (log_of e)) events
+pub same_numbers_used : (a b : Solving) → b.formula ≡ a.formula → b.events ≡ a.events → numbers_used b ≡ numbers_used a
+same_numbers_used a b formula events = ap (λ f. length f + length (units_of b.events) + adds_in (log_of b.events)) formula ∙ ap (λ e. length a.formula + length (units_of e) + adds_in (log_of e)) events
 
-pub taken_given : (a b : Solving) (lit : Lit) → b.formula ≡ a.formula → b.events ≡ a.events ++ gives lit ∷ [] → taken b ≡ taken a + 1
-taken_given a b lit formula events =
+pub numbers_used_given : (a b : Solving) (lit : Lit) → b.formula ≡ a.formula → b.events ≡ a.events ++ gives lit ∷ [] → numbers_used b ≡ numbers_used a + 1
+numbers_used_given a b lit formula events =
     let units : length (units_of b.events) ≡ length (units_of a.events) + 1 = ap (λ e. length (units_of e)) events ∙ (ap length (units_given a.events lit) ∙ length_push (units_of a.events) lit) in
     let added : adds_in (log_of b.events) ≡ adds_in (log_of a.events) = ap (λ e. adds_in (log_of e)) events ∙ adds_given a.events lit in
     let given : length b.formula ≡ length a.formula = ap length formula in
     omega arith
 
-pub taken_added : (a b : Solving) (id : ClauseId) (lits : List Lit) (hints : List ClauseId) → b.formula ≡ a.formula → b.events ≡ a.events ++ derives (adds id lits hints) ∷ [] → taken b ≡ taken a + 1
-taken_added a b id lits hints formula events =
+pub numbers_used_added : (a b : Solving) (id : ClauseId) (lits : List Lit) (hints : List ClauseId) → b.formula ≡ a.formula → b.events ≡ a.events ++ derives (adds id lits hints) ∷ [] → numbers_used b ≡ numbers_used a + 1
+numbers_used_added a b id lits hints formula events =
     let step : Event = derives (adds id lits hints) in
     let units : length (units_of b.events) ≡ length (units_of a.events) = ap (λ e. length (units_of e)) events ∙ ap length (units_of-append a.events (step ∷ []) ∙ Rattle.std.proofs.lemmas.List.append-nil (units_of a.events)) in
     let added : adds_in (log_of b.events) ≡ adds_in (log_of a.events) + 1 = ap (λ e. adds_in (log_of e)) events ∙ (ap adds_in (log_of-append a.events (step ∷ [])) ∙ adds_in-append (log_of a.events) (adds id lits hints ∷ [])) in

@@ -11,7 +11,7 @@ use Rattle.sat_core.specs.Clauses.{negated, IsOver, IsClause}
 use Rattle.sat_core.specs.Derivation.{numbered_from}
 use Rattle.sat_core.specs.Hints.{NumberedClause, clause_of, is_known, is_same}
 use Rattle.search_trail.specs.declared.entry.Entry.{Entry}
-use Rattle.search_trail.specs.Trails.{TrailParts, IsTrail, IsCut, known_of, up_to}
+use Rattle.search_trail.specs.Trails.{TrailParts, IsTrail, IsCutBack, known_of, up_to}
 use Rattle.search_trail.proofs.LevelLaws.{up_to-at, up_to-from, all_up_to}
 use Rattle.conflict_learn.specs.Learning.{IsConflict}
 use Rattle.sat_core.specs.Fresh.{IsOpen}
@@ -53,7 +53,7 @@ conflict_grown live t later more id is bottom conflict = record {
 }
 
 -- at level 0 going back to it changes nothing
-pub cut_bottom : (t : TrailParts) (entries : List Entry) → IsTrail t → t.present ≡ 0 → IsCut 0 t.entries entries → entries ≡ t.entries
+pub cut_bottom : (t : TrailParts) (entries : List Entry) → IsTrail t → t.present ≡ 0 → IsCutBack 0 t.entries entries → entries ≡ t.entries
 cut_bottom t entries laws bottom cut = elim (cases_lt cut.size (length t.entries)) [
   | inl short ↦
       let d : Entry = record { lit = record { var = record { 0 = 0 }; positive = true }; reason = None; level = 0 } in

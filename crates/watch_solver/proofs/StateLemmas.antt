@@ -1,22 +1,21 @@
 -- The watch solver's state keeps what holds of it: at its beginning, where it is seen alike, with a unit and with a learned clause.
 use Rattle.std.proofs.Common.{◌≡◌, ◌≢◌, ℕ, ◌+◌, ◌<◌, ◌≤◌, Bool, true, false, inl, List, [], ◌∷◌, ◌++◌, length, take, drop, min, refl, ap, sym, subst, ◌∙◌, arith}
-use Rattle.std.specs.Prelude.{All, Any, Contains, Option, Some, None, Ok, Err}
-use Rattle.std.proofs.lemmas.List.{drop_all, length_push, get_or-take, get_or_default, length-take-le}
+use Rattle.std.specs.Prelude.{All, Any, Option, Some, None, Ok, Err}
+use Rattle.std.proofs.lemmas.List.{drop_all, length-take-le}
 use Rattle.std.proofs.lemmas.List.Elements.{All-nil, All-take}
 use Rattle.sat_core.specs.declared.literal.Lit.{Lit}
 use Rattle.sat_core.specs.declared.literal.ClauseId.{ClauseId}
 use Rattle.sat_core.specs.Clauses.{negated, IsOver}
 use Rattle.sat_core.specs.Derivation.{DerivedStep, AddsEmptyClause, numbered_from}
-use Rattle.sat_core.specs.Fresh.{IsUnitUnder}
 use Rattle.sat_core.specs.Hints.{NumberedClause, clause_of, is_known}
-use Rattle.sat_core.specs.Search.{Event, gives, derives, Search, search_of, after_event, IsLearned, log_of, units_of}
+use Rattle.sat_core.specs.Search.{Event, gives, Search, search_of, after_event, log_of, units_of}
 use Rattle.sat_core.proofs.LiveLaws.{clause_of-more}
 use Rattle.sat_core.proofs.SearchLaws.{log_given}
 use Rattle.search_trail.specs.declared.entry.Entry.{Entry}
-use Rattle.search_trail.specs.Trails.{TrailParts, IsTrail, IsCut, Grows, known_of, up_to, assigned}
+use Rattle.search_trail.specs.Trails.{TrailParts, IsTrail, IsCutBack, Grows, known_of}
 use Rattle.search_trail.proofs.TrailLaws.{IsTrail-cut}
 use Rattle.conflict_learn.specs.Learning.{IsConflict}
-use Rattle.solver_face.specs.Solving.{Solving, IsSound, search_now, taken, Searched, IsRefuted, IsAnswer, EndsInAdd}
+use Rattle.solver_face.specs.Solving.{Solving, IsSound, search_now, numbers_used, Searched, IsRefuted, IsAnswer, EndsInAdd}
 use Rattle.solver_face.specs.declared.answer.Answer.TheVariants as answer
 use Rattle.solver_face.proofs.SolvingLaws.{sound_more, searched_none, searched_add}
 use Rattle.activity_order.specs.Choices.{OpenOnesWait, IsNextDecision}
@@ -28,11 +27,11 @@ use Rattle.watch_store.proofs.LiveLaws.{AreShortTrue-inserted}
 use Rattle.watch_solver.specs.declared.state.State.{State}
 use Rattle.watch_solver.specs.Running.{watch_solving, first_clauses, LogEnds, DropPlaceTells, AreLiveOf, ClashTells, IsRunning, IsWatchState, IsLearnedStep, IsSeenAlike}
 use Rattle.watch_solver.proofs.LiveLemmas.{first_of_numbered, numbered_upto, rising_numbered, length_numbered, pushed_live, first_stay}
-use Rattle.watch_solver.proofs.SearchLemmas.{vars_now, same_search, next_search, same_sound, same_taken, taken_given, live_given}
+use Rattle.watch_solver.proofs.SearchLemmas.{vars_now, same_search, next_search, same_sound, same_numbers_used, numbers_used_given, live_given}
 use Rattle.watch_solver.proofs.SeatLemmas.{IsSeated, short_grown, conflict_grown, cut_bottom}
 
 -- ---- the trail that has gone back
-back_laws : (t t' : TrailParts) (level : ℕ) → IsTrail t → level ≤ t.present → t'.vars ≡ t.vars → IsCut level t.entries t'.entries → t'.read ≡ min t.read (length t'.entries) → t'.present ≡ level → IsTrail t'
+back_laws : (t t' : TrailParts) (level : ℕ) → IsTrail t → level ≤ t.present → t'.vars ≡ t.vars → IsCutBack level t.entries t'.entries → t'.read ≡ min t.read (length t'.entries) → t'.present ≡ level → IsTrail t'
 back_laws t t' level laws low vars cut read present =
     let long : length t'.entries ≡ cut.size = ap length cut.front ∙ length-take-le cut.size t.entries cut.within in
     let make : ℕ → List Entry → ℕ → ℕ → TrailParts = λ v es r p. record { vars = v; entries = es; read = r; present = p } in
@@ -44,7 +43,7 @@ back_laws t t' level laws low vars cut read present =
     ∙ ap (make t.vars (take cut.size t.entries) (min t.read cut.size)) present)) in
     subst IsTrail (sym is) (IsTrail-cut t cut.size level laws cut.within kept cut.gone low)
 
-pub fits_back : (s : StoreParts) (t t' : TrailParts) (level : ℕ) → level ≤ t.present → t'.vars ≡ t.vars → IsCut level t.entries t'.entries → t'.read ≡ min t.read (length t'.entries) → t'.present ≡ level → FitsTrail s t → FitsTrail s t'
+pub fits_back : (s : StoreParts) (t t' : TrailParts) (level : ℕ) → level ≤ t.present → t'.vars ≡ t.vars → IsCutBack level t.entries t'.entries → t'.read ≡ min t.read (length t'.entries) → t'.present ≡ level → FitsTrail s t → FitsTrail s t'
 fits_back s t t' level low vars cut read present fits = FitsTrail-cut s t t' level low (back_laws t t' level fits.laws low vars cut read present) vars cut read present fits
 
 -- a slice that was lent by a vector, and comes back
@@ -84,7 +83,7 @@ pub alike_state : (s n : State) → IsWatchState s → IsSeenAlike s n → DropP
 alike_state s n state alike place running = record {
   drop_place = place;
   sound = sound_alike s n state.sound alike.vars alike.live alike.given alike.history;
-  numbers = alike.last ∙ (state.numbers ∙ sym (same_taken (watch_solving s false) (watch_solving n false) (formula_alike s n alike.live alike.given) alike.history));
+  numbers = alike.last ∙ (state.numbers ∙ sym (same_numbers_used (watch_solving s false) (watch_solving n false) (formula_alike s n alike.live alike.given) alike.history));
   log_ends = subst (λ b. LogEnds b (log_of n.history)) (sym alike.refuted) (subst (λ es. LogEnds s.refuted (log_of es)) (sym alike.history) state.log_ends);
   running = λ open_yet. running (sym alike.refuted ∙ open_yet);
 }
@@ -110,7 +109,7 @@ begin_state n clauses live given last history fits waiting space values stamps r
       sound = record { events = subst (λ es. Rattle.sat_core.specs.Search.AreNext (search_of n.store.vars (first_clauses n.given n.store.live)) es) (sym history) tt };
       numbers =
           let many : length (first_clauses n.given n.store.live) ≡ n.given = ap length formula ∙ sym given in
-          let whole : taken (watch_solving n false) ≡ length (first_clauses n.given n.store.live) + 0 + 0 = ap (λ es. length (first_clauses n.given n.store.live) + length (units_of es) + Rattle.sat_core.specs.Search.adds_in (log_of es)) history in
+          let whole : numbers_used (watch_solving n false) ≡ length (first_clauses n.given n.store.live) + 0 + 0 = ap (λ es. length (first_clauses n.given n.store.live) + length (units_of es) + Rattle.sat_core.specs.Search.adds_in (log_of es)) history in
           omega (arith, many, whole, last);
       log_ends = subst (λ b. LogEnds b (log_of n.history)) (sym refuted) (subst (λ es. LogEnds false (log_of es)) (sym history) (All-nil (λ (step : DerivedStep). ¬ AddsEmptyClause (Some step))));
       drop_place = place;
@@ -154,7 +153,7 @@ sound_grown s n id lits state open_yet number vars inserted given history = same
 log_stays : (events more : List Event) (lit : Lit) → more ≡ events ++ gives lit ∷ [] → log_of more ≡ log_of events
 log_stays events more lit is = ap log_of is ∙ log_given events lit
 
-clash_given : (old new : Option ClauseId) (id : ClauseId) (lits : List Lit) (clash : Bool) (live more : List NumberedClause) (t t1 later : TrailParts) (grown : List Entry) → more ≡ live ++ record { id = id; lits = lits } ∷ [] → IsInserted id lits live more → IsTrail t → IsCut 0 t.entries t1.entries → t1.present ≡ 0 → later.entries ≡ t1.entries ++ grown → later.present ≡ 0
+clash_given : (old new : Option ClauseId) (id : ClauseId) (lits : List Lit) (clash : Bool) (live more : List NumberedClause) (t t1 later : TrailParts) (grown : List Entry) → more ≡ live ++ record { id = id; lits = lits } ∷ [] → IsInserted id lits live more → IsTrail t → IsCutBack 0 t.entries t1.entries → t1.present ≡ 0 → later.entries ≡ t1.entries ++ grown → later.present ≡ 0
     → (clash ≡ true → IsConflict more later id) → (clash ≡ false → length lits < 2 → IsSeated later.entries lits) → (old ≢ None → new ≡ old) → (old ≡ None → clash ≡ false → new ≡ None) → (old ≡ None → clash ≡ true → new ≡ Some id) → ClashTells old live t → ClashTells new more later
 clash_given (Some other) new id lits clash live more t t1 later grown is inserted laws cut low grew bottom conflict seated stays none some tells =
     let same : t1.entries ≡ t.entries = cut_bottom t t1.entries laws tells.1 cut in
@@ -175,7 +174,7 @@ clash_given None new id lits false live more t t1 later grown is inserted laws c
 
 pub given_state : (s n : State) (lit : Lit) (id : ClauseId) (t1 : TrailParts) (clash : Bool) → IsWatchState s → s.refuted ≡ false → IsOver s.store.vars lit → id.0 ≡ s.last + 1
     → n.store.vars ≡ s.store.vars → IsInserted id (lit ∷ []) s.store.live n.store.live → n.given ≡ s.given → n.last ≡ s.last + 1 → n.history ≡ s.history ++ gives lit ∷ [] → n.refuted ≡ s.refuted → n.drop_at ≡ s.drop_at
-    → n.space ≡ s.space → length n.valuation.values ≡ length s.valuation.values → length n.stamps.items ≡ length s.stamps.items → FitsTrail n.store n.trail → OpenOnesWait n.order t1 → IsCut 0 s.trail.entries t1.entries → t1.present ≡ 0 → Grows t1 n.trail
+    → n.space ≡ s.space → length n.valuation.values ≡ length s.valuation.values → length n.stamps.items ≡ length s.stamps.items → FitsTrail n.store n.trail → OpenOnesWait n.order t1 → IsCutBack 0 s.trail.entries t1.entries → t1.present ≡ 0 → Grows t1 n.trail
     → (clash ≡ true → IsConflict n.store.live n.trail id) → (clash ≡ false → 1 < 2 → IsSeated n.trail.entries (lit ∷ [])) → (s.clash ≢ None → n.clash ≡ s.clash) → (s.clash ≡ None → clash ≡ false → n.clash ≡ None) → (s.clash ≡ None → clash ≡ true → n.clash ≡ Some id) → IsWatchState n
 given_state s n lit id t1 clash state open_yet over number vars inserted given last history refuted place space values stamps fits waiting cut bottom grows conflict seated stays none some =
     let run : IsRunning s = state.running open_yet in
@@ -186,7 +185,7 @@ given_state s n lit id t1 clash state open_yet over number vars inserted given l
     let search : search_now new ≡ after_event (search_now old) (gives lit) = next_search old new (gives lit) vars formula history in
     record {
       sound = sound_more old new (gives lit) state.sound (subst (λ v. IsOver v lit) (sym (vars_now old)) over) vars formula history;
-      numbers = last ∙ (ap (λ k. k + 1) state.numbers ∙ sym (taken_given old new lit formula history));
+      numbers = last ∙ (ap (λ k. k + 1) state.numbers ∙ sym (numbers_used_given old new lit formula history));
       log_ends = subst (λ b. LogEnds b (log_of n.history)) (sym refuted) (subst (LogEnds s.refuted) (sym (log_stays s.history n.history lit history)) state.log_ends);
       drop_place = subst DropPlaceTells (sym place) state.drop_place;
       running = λ still. record {
@@ -215,7 +214,7 @@ given_refuted s n lit state closed over store given last history refuted place =
     let formula : first_clauses n.given n.store.live ≡ first_clauses s.given s.store.live = formula_alike s n (ap (λ x. x.live) store) given in
     record {
       sound = sound_more old new (gives lit) state.sound (subst (λ v. IsOver v lit) (sym (vars_now old)) over) vars formula history;
-      numbers = last ∙ (ap (λ k. k + 1) state.numbers ∙ sym (taken_given old new lit formula history));
+      numbers = last ∙ (ap (λ k. k + 1) state.numbers ∙ sym (numbers_used_given old new lit formula history));
       log_ends = subst (λ b. LogEnds b (log_of n.history)) (sym refuted) (subst (LogEnds s.refuted) (sym (log_stays s.history n.history lit history)) state.log_ends);
       drop_place = subst DropPlaceTells (sym place) state.drop_place;
       running = λ still. absurd (Rattle.sat_core.proofs.OpenLaws.true_is_not_false (sym closed ∙ (sym refuted ∙ still)));
@@ -277,7 +276,7 @@ pub on_err : {X E : Type 0} (r : Rattle.std.specs.Prelude.Result X E) (P : Type 
 on_err (Ok x) P holds = tt
 on_err (Err e) P holds = holds
 
-pub clash_back : (clash : Option ClauseId) (live : List NumberedClause) (t t1 : TrailParts) → IsTrail t → IsCut 0 t.entries t1.entries → t1.present ≡ 0 → ClashTells clash live t → ClashTells clash live t1
+pub clash_back : (clash : Option ClauseId) (live : List NumberedClause) (t t1 : TrailParts) → IsTrail t → IsCutBack 0 t.entries t1.entries → t1.present ≡ 0 → ClashTells clash live t → ClashTells clash live t1
 clash_back None live t t1 laws cut bottom tells = AreShortTrue-cut live t t1 0 cut tells
 clash_back (Some id) live t t1 laws cut bottom tells =
     let same : t1.entries ≡ t.entries = cut_bottom t t1.entries laws tells.1 cut in (

@@ -7,7 +7,7 @@ use Rattle.sat_core.specs.Hints.{NumberedClause, clause_of}
 use Rattle.sat_core.specs.Search.{Event, derives, Search, IsLearned, IsDropPlace, log_of, units_of}
 use Rattle.search_trail.specs.Trails.{TrailParts}
 use Rattle.conflict_learn.specs.Learning.{IsConflict}
-use Rattle.solver_face.specs.Solving.{Solving, IsSound, AddNoEmptyClause, search_now, taken}
+use Rattle.solver_face.specs.Solving.{Solving, IsSound, AddNoEmptyClause, search_now, numbers_used}
 use Rattle.activity_order.specs.Choices.{OpenOnesWait}
 use Rattle.watch_store.specs.Fits.{FitsTrail, AreShortTrue}
 use Rattle.watch_solver.specs.declared.state.State.{State}
@@ -64,7 +64,7 @@ pub record IsRunning (s : State) : Type 0 where
 -- what holds of the state between any two calls, as long as there was memory
 pub record IsWatchState (s : State) : Type 0 where
   pub sound : IsSound (watch_solving s false)
-  pub numbers : s.last ≡ taken (watch_solving s false)
+  pub numbers : s.last ≡ numbers_used (watch_solving s false)
   pub log_ends : LogEnds s.refuted (log_of s.history)
   pub drop_place : DropPlaceTells s.drop_at
   pub running : s.refuted ≡ false → IsRunning s

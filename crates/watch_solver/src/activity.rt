@@ -1,5 +1,5 @@
 //! Which variables become more active behind a conflict: those that were met in learning from it, each once.
-ghost use Rattle.std.specs.Prelude.{◌≡◌, ◌≤◌, All, length};
+ghost use Rattle.std.specs.Prelude.{◌≡◌, All, length};
 ghost use Rattle.sat_core.specs.Clauses.{IsClause, IsOver};
 
 use activity_order::ActivityOrder;

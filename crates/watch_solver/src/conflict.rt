@@ -1,5 +1,5 @@
 //! A conflict: one clause is learned, logged and added, and the trail goes back.
-ghost use Rattle.std.specs.Prelude.{◌≡◌, ◌≢◌, ℕ, ◌^◌, ◌-◌, ◌<◌, [], false, length, IfOk, OnOk, OnErr};
+ghost use Rattle.std.specs.Prelude.{◌≡◌, ◌≢◌, ℕ, ◌^◌, ◌-◌, ◌<◌, [], false, IfOk, OnOk, OnErr};
 ghost use Rattle.sat_core.specs.declared.literal.ClauseId.{ClauseId};
 ghost use Rattle.conflict_learn.specs.Learning.{IsConflict, IsLearnedFrom};
 ghost use Rattle.watch_solver.specs.Running.{IsWatchState, IsLearnedStep, watch_solving};

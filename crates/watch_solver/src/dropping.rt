@@ -14,8 +14,8 @@ use std::alloc::AllocError;
 use vss_lists::Items;
 use watch_store::WatchStore;
 
-/// Where so many conflicts were met, drops the chosen ones of the learned clauses. Linear in the literals of the live
-/// clauses.
+/// Where so many conflicts were met, drops the chosen ones of the learned clauses, and uses their room again. Linear in the
+/// literals of the live clauses, in the numbers and in the variables.
 pub(crate) fn drop_learned(state: &mut State) -> Result<(), AllocError>
     requires state { IsWatchState state.old }
     requires open { state.old.refuted ≡ false }
@@ -39,7 +39,7 @@ pub(crate) fn drop_learned(state: &mut State) -> Result<(), AllocError>
     if ids.len() == 0 {
         return Ok(());
     }
-    discard_all(&mut state.store, &state.trail, ids.as_slice());
+    let_go(&mut state.store, &state.trail, ids.as_slice());
     state.history.drop_clauses(Items::from_vec(ids))?;
     Ok(())
 }
@@ -54,6 +54,22 @@ fn next_drop(place: u32) -> u32
         return 0;
     }
     2 * place + 2000
+}
+
+/// The clauses with these numbers are live no longer, and their room is used again. Where there is no memory for that the
+/// store keeps the room that it has, and the search goes on.
+fn let_go(store: &mut WatchStore, trail: &Trail, ids: &[ClauseId])
+    requires fits { FitsTrail store.old trail.now }
+    requires go { (given : ℕ) × AreToGo store.old.live trail.now.entries given ids.now }
+    ensures vars { store.new.vars ≡ store.old.vars }
+    ensures live { store.new.live ≡ without_ids ids.now store.old.live }
+    ensures fits { FitsTrail store.new trail.now }
+{
+    discard_all(store, trail, ids);
+    match store.compact() {
+        Ok(()) => {}
+        Err(AllocError) => {}
+    }
 }
 
 /// The clauses with these numbers are live no longer.

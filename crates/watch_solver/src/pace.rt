@@ -1,5 +1,5 @@
 //! When the search restarts.
-ghost use Rattle.std.specs.Prelude.{◌≡◌, ℕ, ◌+◌, ◌*◌, ◌<◌, true, false};
+ghost use Rattle.std.specs.Prelude.{◌≡◌, ℕ, ◌+◌, ◌*◌, true, false};
 ghost use Rattle.watch_solver.specs.Luby.{IsLuby};
 
 use crate::luby::luby;

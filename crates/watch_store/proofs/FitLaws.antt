@@ -10,7 +10,7 @@ use Rattle.sat_core.specs.Hints.{NumberedClause, is_known}
 use Rattle.sat_core.specs.Fresh.{IsOpen, IsAtRest, IsClosed}
 use Rattle.sat_core.proofs.OpenLaws.{is_known-at}
 use Rattle.search_trail.specs.declared.entry.Entry.{Entry}
-use Rattle.search_trail.specs.Trails.{TrailParts, IsTrail, IsCut, known_of, up_to, assigned, decided}
+use Rattle.search_trail.specs.Trails.{TrailParts, IsTrail, IsCutBack, known_of, up_to, assigned, decided}
 use Rattle.search_trail.specs.Reasons.{IsReason}
 use Rattle.search_trail.proofs.TrailLaws.{IsTrail-push, now_low, one_sign}
 use Rattle.search_trail.proofs.LevelLaws.{up_to-more, up_to-push, up_to-cut, up_to-not, known-from_up_to, all_up_to}
@@ -53,7 +53,7 @@ FitsTrail-decide s t lit all_read over is_open fits =
     }
 
 -- the trail goes back to a level
-pub FitsTrail-cut : (s : StoreParts) (t t' : TrailParts) (level : ℕ) → level ≤ t.present → IsTrail t' → t'.vars ≡ t.vars → IsCut level t.entries t'.entries → t'.read ≡ min t.read (length t'.entries) → t'.present ≡ level → FitsTrail s t → FitsTrail s t'
+pub FitsTrail-cut : (s : StoreParts) (t t' : TrailParts) (level : ℕ) → level ≤ t.present → IsTrail t' → t'.vars ≡ t.vars → IsCutBack level t.entries t'.entries → t'.read ≡ min t.read (length t'.entries) → t'.present ≡ level → FitsTrail s t → FitsTrail s t'
 FitsTrail-cut s t t' level low laws vars cut read present fits =
     let long : length t'.entries ≡ cut.size = ap length cut.front ∙ length-take-le cut.size t.entries cut.within in
     record {
@@ -76,7 +76,7 @@ AreShortTrue-push live t e short k d within few =
     let any = short k d within few in
     (any.0, any.1, any.2, any.3, up_to-push 0 t.entries e any.1 any.4)
 
-pub AreShortTrue-cut : (live : List NumberedClause) (t t' : TrailParts) (level : ℕ) → IsCut level t.entries t'.entries → AreShortTrue live t → AreShortTrue live t'
+pub AreShortTrue-cut : (live : List NumberedClause) (t t' : TrailParts) (level : ℕ) → IsCutBack level t.entries t'.entries → AreShortTrue live t → AreShortTrue live t'
 AreShortTrue-cut live t t' level cut short k d within few =
     let any = short k d within few in
     (any.0, any.1, any.2, any.3, up_to-cut level 0 t.entries t'.entries any.1 cut (omega arith) any.4)

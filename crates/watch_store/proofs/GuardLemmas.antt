@@ -9,7 +9,7 @@ use Rattle.sat_core.specs.Hints.{is_known}
 use Rattle.sat_core.specs.Fresh.{IsAtRest}
 use Rattle.sat_core.proofs.OpenLaws.{place_of_known, true_is_not_false}
 use Rattle.search_trail.specs.declared.entry.Entry.{Entry}
-use Rattle.search_trail.specs.Trails.{IsCut, known_of, up_to}
+use Rattle.search_trail.specs.Trails.{IsCutBack, known_of, up_to}
 use Rattle.search_trail.proofs.TrailLaws.{OneSign, known-at_entry}
 use Rattle.search_trail.proofs.LevelLaws.{up_to-at, up_to-from, up_to-more, up_to-push, up_to-cut, known-from_up_to}
 use Rattle.watch_store.specs.Watching.{other_of, IsGuarded, AreGuarded}
@@ -20,7 +20,7 @@ IsGuarded-push entries read watch partner e within guarded k d below is =
     subst (λ n. is_known (up_to n (entries ++ e ∷ [])) partner ≡ true) (ap (λ x. x.level) (sym same))
     (up_to-push (get_or entries k d).level entries e partner (guarded k d below (ap (λ x. x.lit) (sym same) ∙ is)))
 
-pub IsGuarded-cut : (level : ℕ) (old new : List Entry) (read : ℕ) (watch partner : Lit) → IsCut level old new → IsGuarded old read watch partner → IsGuarded new (min read (length new)) watch partner
+pub IsGuarded-cut : (level : ℕ) (old new : List Entry) (read : ℕ) (watch partner : Lit) → IsCutBack level old new → IsGuarded old read watch partner → IsGuarded new (min read (length new)) watch partner
 IsGuarded-cut level old new read watch partner cut guarded k d below is =
     let long : length new ≡ cut.size = ap length cut.front ∙ length-take-le cut.size old cut.within in
     let same : get_or new k d ≡ get_or old k d = ap (λ es. get_or es k d) cut.front ∙ get_or-take cut.size old k d (omega arith) in
@@ -31,7 +31,7 @@ IsGuarded-cut level old new read watch partner cut guarded k d below is =
 pub AreGuarded-push : (entries : List Entry) (read : ℕ) (watches : List Lit) (e : Entry) → read ≤ length entries → AreGuarded entries read watches → AreGuarded (entries ++ e ∷ []) read watches
 AreGuarded-push entries read watches e within all node d inside = IsGuarded-push entries read (get_or watches node d) (get_or watches (other_of node) d) e within (all node d inside)
 
-pub AreGuarded-cut : (level : ℕ) (old new : List Entry) (read : ℕ) (watches : List Lit) → IsCut level old new → AreGuarded old read watches → AreGuarded new (min read (length new)) watches
+pub AreGuarded-cut : (level : ℕ) (old new : List Entry) (read : ℕ) (watches : List Lit) → IsCutBack level old new → AreGuarded old read watches → AreGuarded new (min read (length new)) watches
 AreGuarded-cut level old new read watches cut all node d inside = IsGuarded-cut level old new read (get_or watches node d) (get_or watches (other_of node) d) cut (all node d inside)
 
 -- a literal that isn't false guards and is guarded at once, where the one it takes the place of is false

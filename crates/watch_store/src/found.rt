@@ -38,14 +38,44 @@ pub(crate) fn read_clause(trail: &Trail, lits: &[Lit], partner: Lit) -> Visit
     }
 }
 
-/// The first literal that isn't false, besides the other watched one.
+/// A literal that isn't false, besides the other watched one: the first one of the front, or else the last one of the rest.
+/// So a long clause whose watches are lost one after the other is not read from one end to the other for each of them.
 pub(crate) fn replacement(trail: &Trail, lits: &[Lit], partner: Lit) -> Option<Lit>
+    requires { All (IsOver trail.now.vars) lits.now }
+    ensures { MatchOption result (OthersFalse (known_of trail.now.entries) lits.now partner) (λ lit. Contains lits.now lit × (lit ≢ partner) × (is_known (known_of trail.now.entries) (negated lit) ≡ false)) }
+{
+    let (front, rest) = lits.split_at(lits.len().min(FRONT));
+    match first_other(trail, front, partner) {
+        Some(lit) => Some(lit),
+        None => last_other(trail, rest, partner),
+    }
+}
+
+/// As many literals are the front.
+const FRONT: usize = 8;
+
+/// The first of these literals that isn't false, besides the other watched one.
+fn first_other(trail: &Trail, lits: &[Lit], partner: Lit) -> Option<Lit>
     requires { All (IsOver trail.now.vars) lits.now }
     ensures { MatchOption result (OthersFalse (known_of trail.now.entries) lits.now partner) (λ lit. Contains lits.now lit × (lit ≢ partner) × (is_known (known_of trail.now.entries) (negated lit) ≡ false)) }
 {
     for lit in lits {
         if *lit != partner && !trail.is_true(lit.negated()) {
             return Some(*lit);
+        }
+    }
+    None
+}
+
+/// The last of these literals that isn't false, besides the other watched one.
+fn last_other(trail: &Trail, lits: &[Lit], partner: Lit) -> Option<Lit>
+    requires { All (IsOver trail.now.vars) lits.now }
+    ensures { MatchOption result (OthersFalse (known_of trail.now.entries) lits.now partner) (λ lit. Contains lits.now lit × (lit ≢ partner) × (is_known (known_of trail.now.entries) (negated lit) ≡ false)) }
+{
+    'from_end: for place in (0..lits.len()).rev() {
+        let lit = lits[place];
+        if lit != partner && !trail.is_true(lit.negated()) {
+            return Some(lit);
         }
     }
     None

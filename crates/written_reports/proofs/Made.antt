@@ -1,5 +1,5 @@
 -- The scene of accepted documents was cut of a network and a timetable.
-use Rattle.std.proofs.Common.{◌≡◌, ℕ, List, Result, Ok, Err, refl}
+use Rattle.std.proofs.Common.{◌≡◌, Result, Ok, Err}
 use Rattle.cell_net.specs.declared.scene.Scene.{Scene}
 use Rattle.rail_net.specs.Refusals.{IsNet}
 use Rattle.rail_net.specs.declared.parts.NetParts.{NetParts}

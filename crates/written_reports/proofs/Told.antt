@@ -1,5 +1,5 @@
 -- What is right to be told of a written report.
-use Rattle.std.proofs.Common.{◌≡◌, ℕ, ◌-◌, ◌≤◌, ◌<◌, List, [], ◌∷◌, length, min, Option, Some, None, Ok, refl, sym, ap, subst, arith}
+use Rattle.std.proofs.Common.{◌≡◌, ℕ, ◌-◌, ◌≤◌, List, [], ◌∷◌, length, Option, Some, None, Ok, refl, sym, subst, arith}
 use Rattle.std.specs.Prelude.{All}
 use Rattle.std.proofs.Math.Nat.{min-le_right}
 use Rattle.cell_net.specs.Labelled.{AreLabels, AreLabelsOf}
@@ -31,16 +31,15 @@ use Rattle.vss_report.specs.declared.outcome.Outcome.{Outcome}
 use Rattle.vss_report.specs.declared.outcome.Outcome.TheVariants as outcome
 use Rattle.vss_report.specs.declared.outcome.Smaller.{Smaller}
 use Rattle.vss_report.specs.declared.outcome.Smaller.TheVariants as smaller
-use Rattle.vss_stages.specs.Stages.{Then, goes_on}
+use Rattle.vss_stages.specs.Stages.{goes_on}
 use Rattle.vss_stages.proofs.StageLaws.{hands_value}
-use Rattle.vss_words.specs.Commands.{command}
 use Rattle.vss_words.specs.declared.command.Command.TheVariants.{Judge, Check}
 use Rattle.vss_words.specs.declared.command.DocumentNames.{DocumentNames}
 use Rattle.vss_jobs.specs.Jobs.{IsJob}
 use Rattle.vss_jobs.specs.Readings.{judging, checking, report_stop, size_stop, design_job, refutation_job}
 use Rattle.vss_jobs.specs.Settings.{Setting}
-use Rattle.vss_answers.specs.Answers.{IsRightAnswer, CheckEnds, checked_answer}
-use Rattle.vss_answers.specs.declared.answer.Answer.TheVariants.{Lawful, Proved}
+use Rattle.vss_answers.specs.Answers.{CheckEnds, checked_answer}
+use Rattle.vss_answers.specs.declared.answer.Answer.TheVariants.{Lawful}
 use Rattle.written_reports.specs.WrittenReports.{HoldsReport, DesignsAreLawful, RefutationsAreProved}
 use Rattle.written_reports.proofs.Made.{IsMadeSetting, made}
 use Rattle.written_reports.proofs.ShortNames.{short_names}

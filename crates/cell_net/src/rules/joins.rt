@@ -1,6 +1,6 @@
 //! The rule of joins.
 
-ghost use Rattle.std.specs.Prelude.{◌≡◌, ◌↔◌, ℕ, IsTrue, MatchOption, Some, slice_get, ◌<◌, ◌^◌, length};
+ghost use Rattle.std.specs.Prelude.{◌≡◌, ◌↔◌, IsTrue, MatchOption, Some, ◌<◌, ◌^◌, length};
 ghost use Rattle.vss_lists.specs.Breaks.{HoldsOfEach, BreaksFirstAt};
 ghost use Rattle.cell_net.specs.Rules.{IsGoodJoin, IsNodeOf, node_at};
 ghost use Rattle.cell_net.specs.declared.ids.NodeId.{NodeId};

@@ -35,3 +35,17 @@ fn a_writer_counts_and_keeps(rt: HostRuntime) -> Result<(), Fail> {
     }
     Ok(())
 }
+
+#[test]
+fn a_writer_that_counts_takes_clauses_by_their_number(rt: HostRuntime) -> Result<(), Fail> {
+    let mut writer = ClauseWriter::new(rt.alloc(), 3, 5, 0, false)?;
+    assert!(rt; !writer.keeps());
+    assert_eq!(rt; writer.take_counted(3, 7), Ok(()));
+    assert_eq!(rt; writer.take_counted(3, 3), Err(WriteFault::Full));
+    assert_eq!(rt; writer.take_counted(2, 6), Ok(()));
+    assert_eq!(rt; writer.clause_count(), 5);
+    assert_eq!(rt; writer.literal_count(), 13);
+    assert_eq!(rt; writer.take_counted(0, 0), Ok(()));
+    assert!(rt; ClauseWriter::new(rt.alloc(), 3, 5, 0, true)?.keeps());
+    Ok(())
+}

@@ -1,6 +1,6 @@
 //! Instances and layouts, from short tables.
 
-ghost use Rattle.std.specs.Prelude.{◌<◌, ◌^◌, ◌↔◌, All, IfOk, IsTrue, length};
+ghost use Rattle.std.specs.Prelude.{◌<◌, ◌↔◌, All, IfOk, IsTrue, length};
 ghost use Rattle.cell_net.specs.Borders.{IsBorderSet};
 
 use cell_net::{

@@ -2,7 +2,7 @@
 
 ghost use Rattle.std.specs.Prelude.{◌≡◌, ◌↔◌, true, false, IsTrue, MatchOption};
 ghost use Rattle.vss_lists.specs.Breaks.{BreaksFirstAt, HoldsOfEach};
-ghost use Rattle.rail_net.specs.Borders.{IsBorderJoint, IsGoodBorder, IsWithinTrack, StandsWell};
+ghost use Rattle.rail_net.specs.Borders.{IsBorderJoint, IsGoodBorder, IsWithinTrack};
 ghost use Rattle.rail_net.specs.Parts.{HasFewItems};
 ghost use Rattle.rail_net.specs.Tables.{AreStands};
 ghost use Rattle.rail_net.specs.declared.parts.NodeKind.TheVariants.{Joint};

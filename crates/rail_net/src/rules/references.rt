@@ -1,8 +1,8 @@
 //! The rules on what items refer to.
 
-ghost use Rattle.std.specs.Prelude.{◌≡◌, ◌↔◌, IsTrue, Contains, MatchOption};
+ghost use Rattle.std.specs.Prelude.{◌↔◌, IsTrue, Contains, MatchOption};
 ghost use Rattle.vss_lists.specs.Breaks.{BreaksFirstAt, HoldsOfEach};
-ghost use Rattle.rail_net.specs.Borders.{NamesKnown, IsKnownBorder};
+ghost use Rattle.rail_net.specs.Borders.{IsKnownBorder};
 ghost use Rattle.rail_net.specs.Parts.{HasFewItems};
 ghost use Rattle.rail_net.specs.Rules.{AreKnown, KnowsNamed, KnowsPair, KnowsTracks, ListsTracks};
 ghost use Rattle.rail_net.specs.Tables.{AreNamesOf};

@@ -1,5 +1,5 @@
 //! What a test does with a solver, whichever it is.
-ghost use Rattle.std.specs.Prelude.{◌≡◌, ◌+◌, ◌≤◌, ◌<◌};
+ghost use Rattle.std.specs.Prelude.{◌≡◌, ◌<◌};
 
 use super::formulas::{Clauses, formula_of, literal};
 use derivation_log::Step;

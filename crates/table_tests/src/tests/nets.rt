@@ -81,7 +81,7 @@ pub(super) fn train_of(alloc: Global, length: u32, advance: u32) -> TrainSpec {
     }
 }
 
-/// The instance of the net, with three steps, four sections and a hundred nodes.
+/// The instance of the net, with three steps, four sections and ten thousand nodes.
 pub(super) fn built(rt: &impl Abort, alloc: Global, net: Net) -> Result<Instance, Fail> {
     let Net {
         cells,
@@ -91,7 +91,7 @@ pub(super) fn built(rt: &impl Abort, alloc: Global, net: Net) -> Result<Instance
         trains,
     } = net;
     let parts = InstanceParts {
-        nodes: 100,
+        nodes: 10_000,
         sections: 4,
         cells: Items::from_vec(cells),
         joins: Items::from_vec(joins),

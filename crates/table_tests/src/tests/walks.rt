@@ -35,7 +35,10 @@ const CROSSED: Cells = &[(0, 1, 0), (1, 3, 0), (1, 2, 0), (2, 3, 0)];
 /// A tip, cell 0, and two legs, cells 1 and 2 and cells 3 and 4.
 const POINT: Cells = &[(0, 1, 0), (1, 2, 0), (2, 4, 0), (1, 3, 0), (3, 5, 0)];
 
-static ROWS: [Row; 13] = [
+/// Four cells in a row, with nodes of high numbers.
+const FAR: Cells = &[(0, 4095, 0), (4095, 4096, 0), (4096, 9999, 0), (9999, 1, 0)];
+
+static ROWS: [Row; 17] = [
     (LINE, &[1, 2], (0, 2), &[&[0, 1]]),
     (LINE, &[1, 2], (2, 0), &[&[0, 1]]),
     (LINE, &[1, 2], (1, 2), &[&[1]]),
@@ -53,6 +56,11 @@ static ROWS: [Row; 13] = [
     // from leg to leg, past the point
     (POINT, &[2, 3], (2, 4), &[&[0, 1]]),
     (POINT, &[2, 3], (1, 3), &[&[]]),
+    // nodes on both sides of the number from which on they are searched for, and the last one alone
+    (FAR, &[4095, 4096, 9999], (0, 3), &[&[0, 1, 2]]),
+    (FAR, &[9999], (0, 3), &[&[0]]),
+    (FAR, &[4095], (3, 0), &[&[0]]),
+    (FAR, &[], (0, 3), &[&[]]),
     // cells of two sections
     (&[(0, 1, 0), (1, 2, 1)], &[], (0, 1), &[]),
 ];
@@ -72,9 +80,11 @@ fn check_row(rt: &impl Abort, alloc: Global, row: Row) -> Result<(), Fail> {
     let (e, f) = (CellId(ends.0), CellId(ends.1));
     assert_eq!(rt; gaps.walk_count(e, f) as usize, walks.len());
     for walk in 0..gaps.walk_count(e, f) {
+        let want = walks[walk as usize];
+        assert_eq!(rt; gaps.candidate_count(e, f, walk) as usize, want.len());
         let mut found = Vec::new(alloc);
         gaps.put_walk(e, f, walk, &mut found)?;
-        check_walk(rt, &found, walks[walk as usize]);
+        check_walk(rt, &found, want);
     }
     Ok(())
 }

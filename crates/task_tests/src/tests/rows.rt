@@ -1,6 +1,6 @@
 //! Rows of cells of one section, with a candidate between each two, and trains of one cell that go over the row by one cell a
 //! step.
-ghost use Rattle.std.specs.Prelude.{◌<◌, ◌≤◌, ◌↔◌, All, IsTrue, length};
+ghost use Rattle.std.specs.Prelude.{◌<◌, ◌↔◌, All, IsTrue, length};
 
 use cell_net::{
     CandidateId, CellEnd, CellId, CellSpec, DirCell, End, Instance, InstanceParts, JoinSpec,

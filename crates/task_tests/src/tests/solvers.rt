@@ -1,5 +1,4 @@
 //! The plain solver as solvers that have no memory in some cases.
-ghost use Rattle.std.specs.Prelude.{◌≡◌};
 
 use derivation_log::Log;
 use plain_solver::PlainSolver;

@@ -1,5 +1,5 @@
 -- Why `read_list` does what its contract says.
-use Rattle.std.proofs.Common.{◌≡◌, arith}
+use Rattle.std.proofs.Common.{arith}
 use Rattle.derivation_log.proofs.ListLemmas.{IsPartlyRead-none, IsPartlyRead-more, IsPartlyRead-found, IsPartlyRead-all}
 use Rattle.derivation_log.proofs.list.read_list.Goals as goal
 

@@ -1,6 +1,5 @@
 -- Why `test_list` does what its contract says.
-use Rattle.std.proofs.Common.{◌≡◌, ◌∷◌, ◌+◌, ◌-◌, length, drop, refl, arith}
-use Rattle.derivation_log.proofs.ListLemmas.{IsSoFar-none, IsSoFar-more, IsSoFar-list, IsSoFar-ends, list_misses}
+use Rattle.derivation_log.proofs.ListLemmas.{IsSoFar-more, IsSoFar-ends, list_misses}
 use Rattle.derivation_log.proofs.NumberLemmas.{some_left, none_left}
 use Rattle.derivation_log.proofs.list.test_list.Goals as goal
 

@@ -1,5 +1,5 @@
 -- Why `number` does what its contract says.
-use Rattle.std.proofs.Common.{◌≡◌, ◌≢◌, ℕ, true, false, arith, refl}
+use Rattle.std.proofs.Common.{◌≡◌, ◌≢◌, true, false, arith, refl}
 use Rattle.std.specs.Prelude.{slice_index}
 use Rattle.derivation_log.proofs.NumberLemmas.{not_zero, never_zero, log_misses}
 use Rattle.derivation_log.proofs.number.number.Goals as goal

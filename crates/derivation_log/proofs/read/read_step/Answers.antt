@@ -1,5 +1,5 @@
 -- Why `read_step` does what its contract says.
-use Rattle.std.proofs.Common.{◌≡◌, length, ap, arith, ◌∙◌}
+use Rattle.std.proofs.Common.{length, ap, arith}
 use Rattle.derivation_log.proofs.NumberLemmas.{some_left}
 use Rattle.derivation_log.proofs.StepLemmas.{is_begun, missed_line}
 use Rattle.derivation_log.proofs.read.read_step.Goals as goal

@@ -1,5 +1,5 @@
 -- Why `is_front_of_step` does what its contract says.
-use Rattle.std.proofs.Common.{◌≡◌, true, false, sym, ◌∙◌, refl, arith}
+use Rattle.std.proofs.Common.{◌≡◌, true, false}
 use Rattle.derivation_log.proofs.NumberLemmas.{none_left, empty_is}
 use Rattle.derivation_log.proofs.StepLemmas.{front_whole, no_front, front_wrong}
 use Rattle.derivation_log.proofs.testing.is_front_of_step.Goals as goal

@@ -1,5 +1,4 @@
 -- Why `test_add` does what its contract says.
-use Rattle.std.proofs.Common.{◌≡◌}
 use Rattle.derivation_log.proofs.StepLemmas.{no_letter, no_number, no_lits, no_blank, no_hints, found_add}
 use Rattle.derivation_log.proofs.testing.test_add.Goals as goal
 

@@ -1,8 +1,7 @@
 -- Why `ends_by_node` does what its contract says.
-use Rattle.std.proofs.Common.{◌≡◌, List, subst, sym, ap, ◌∙◌, get_or, take, ◌++◌, ◌∷◌, []}
+use Rattle.std.proofs.Common.{List, subst, sym, ap, ◌∙◌, get_or, take}
 use Rattle.std.proofs.lemmas.List.{take_more}
 use Rattle.discretise.specs.Joins.{AreEndsByNode, high_end, low_end}
-use Rattle.discretise.specs.Tracks.{IsTrackInRange}
 use Rattle.discretise.specs.declared.tracks.GridTrack.{GridTrack}
 use Rattle.discretise.specs.declared.ends.TrackEnd.{TrackEnd}
 use Rattle.discretise.proofs.EndLemmas.{ends_more, no_ends, with_end}

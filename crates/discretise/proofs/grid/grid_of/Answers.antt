@@ -1,5 +1,5 @@
 -- Why `grid_of` does what its contract says.
-use Rattle.std.proofs.Common.{◌≡◌, ◌<◌, ◌≤◌, ℕ, List, length, sum_by, refl, sym, ap, subst, ◌∙◌, arith}
+use Rattle.std.proofs.Common.{◌≡◌, ◌≤◌, ℕ, List, length, sum_by, refl, sym, ap, subst, ◌∙◌, arith}
 use Rattle.cell_net.specs.declared.ids.NodeId.{NodeId}
 use Rattle.rail_net.specs.Refusals.{IsNet}
 use Rattle.rail_net.specs.declared.parts.TrackPart.{TrackPart}
@@ -7,7 +7,6 @@ use Rattle.rail_net.specs.declared.parts.NetParts.{NetParts}
 use Rattle.rail_net.specs.declared.refusal.ListKind.TheVariants.{Document}
 use Rattle.timetable.specs.declared.parts.Timetable.{Timetable}
 use Rattle.discretise.specs.Grids.{IsGridOf}
-use Rattle.discretise.specs.Places.{candidates_on}
 use Rattle.discretise.specs.Refusals.{HasFewCandidates, HasFewCells, size_rules}
 use Rattle.discretise.specs.Rounding.{length_in_cells}
 use Rattle.discretise.specs.declared.refusal.CutFault.TheVariants.{TooManyCells, TooManyCandidates, TooManyTrains, TooManySteps}

@@ -1,5 +1,5 @@
 -- Why `add_join` does what its contract says.
-use Rattle.std.proofs.Common.{◌≡◌, subst, sym, List}
+use Rattle.std.proofs.Common.{subst, sym, List}
 use Rattle.cell_net.specs.declared.cells.JoinSpec.{JoinSpec}
 use Rattle.discretise.specs.Joins.{AddsJoins, pair_with}
 use Rattle.std.specs.Prelude.{◌∷◌, []}

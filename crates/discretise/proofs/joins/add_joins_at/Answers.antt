@@ -1,7 +1,7 @@
 -- Why `add_joins_at` does what its contract says.
-use Rattle.std.proofs.Common.{◌≡◌, ◌+◌, ◌-◌, ℕ, List, arith, length, take, subst, sym, ap, ◌∙◌, get_or, drop, map, [], ◌∷◌}
+use Rattle.std.proofs.Common.{◌≡◌, ◌+◌, ◌-◌, ℕ, List, arith, length, take, subst, sym, get_or, drop, map}
 use Rattle.std.proofs.lemmas.List.{drop_more, drop_all, length-drop, take_all}
-use Rattle.discretise.specs.Joins.{AddsJoins, NodePair, pair_with, pairs_of}
+use Rattle.discretise.specs.Joins.{AddsJoins, pair_with, pairs_of}
 use Rattle.discretise.specs.declared.ends.TrackEnd.{TrackEnd}
 use Rattle.discretise.proofs.JoinLemmas.{adds_both, adds_none, no_end}
 use Rattle.discretise.proofs.joins.add_joins_at.Goals as goal

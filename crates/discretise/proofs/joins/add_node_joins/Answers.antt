@@ -1,8 +1,8 @@
 -- Why `add_node_joins` does what its contract says.
-use Rattle.std.proofs.Common.{◌≡◌, ◌+◌, ◌++◌, ◌<◌, ℕ, List, subst, sym, ap, refl, ◌∙◌, get_or, take, length, [], ◌∷◌, Some, slice_get, arith}
+use Rattle.std.proofs.Common.{◌≡◌, ◌+◌, ◌++◌, ◌<◌, ℕ, List, subst, sym, ap, refl, ◌∙◌, get_or, take, length, Some, slice_get, arith}
 use Rattle.std.proofs.lemmas.List.{take_more, length-take-le}
 use Rattle.std.proofs.lemmas.Option.{slice_get_read}
-use Rattle.discretise.specs.Joins.{AddsJoins, AreAtNode, NodePair, node_pairs, pairs_from, pairs_of}
+use Rattle.discretise.specs.Joins.{AddsJoins, AreAtNode, NodePair, node_pairs, pairs_of}
 use Rattle.discretise.specs.declared.ends.TrackEnd.{TrackEnd}
 use Rattle.discretise.proofs.JoinLemmas.{adds_both, adds_none, pairs_push}
 use Rattle.discretise.proofs.joins.add_node_joins.Goals as goal

@@ -1,10 +1,10 @@
 -- Why `kept_places` does what its contract says.
-use Rattle.std.proofs.Common.{◌≡◌, ◌<◌, ◌≤◌, ℕ, Bool, false, List, [], length, map, get_or, Some, slice_get, refl, sym, ap, subst, ◌∙◌, arith}
+use Rattle.std.proofs.Common.{◌≡◌, ◌<◌, Bool, List, [], length, get_or, Some, refl, sym, ap, subst, ◌∙◌, arith}
 use Rattle.std.specs.List.{range_with_len}
 use Rattle.std.proofs.lemmas.Option.{slice_get-get_or}
 use Rattle.cell_net.specs.declared.ids.NodeId.{NodeId}
 use Rattle.discretise.specs.Picks.{Picks}
-use Rattle.discretise.specs.Places.{IsKeptPlace, candidate}
+use Rattle.discretise.specs.Places.{IsKeptPlace}
 use Rattle.discretise.proofs.KeptLemmas.{kept_more}
 use Rattle.discretise.proofs.kept.kept_places.Goals as goal
 

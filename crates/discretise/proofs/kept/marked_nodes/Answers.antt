@@ -1,5 +1,5 @@
 -- Why `marked_nodes` does what its contract says.
-use Rattle.std.proofs.Common.{◌≡◌, ◌+◌, ◌++◌, ◌<◌, ℕ, List, [], ◌∷◌, length, take, get_or, set, true, refl, sym, ap, subst, ◌∙◌}
+use Rattle.std.proofs.Common.{◌≡◌, ◌++◌, ◌<◌, List, [], ◌∷◌, length, take, get_or, set, true, sym, ap, subst, ◌∙◌}
 use Rattle.std.proofs.lemmas.List.{take_more}
 use Rattle.rail_net.specs.declared.parts.BorderPart.{BorderPart}
 use Rattle.rail_net.specs.declared.parts.NetParts.{NetParts}

@@ -1,7 +1,6 @@
 -- Why `node_of_cut` does what its contract says.
-use Rattle.std.proofs.Common.{◌≡◌, ◌+◌, ◌-◌, ◌/◌, ◌<◌, ◌≤◌, ◌^◌, ℕ, List, length, get_or, Some, slice_get, refl, sym, ap, subst, ◌∙◌, arith}
+use Rattle.std.proofs.Common.{◌≡◌, ◌+◌, ◌-◌, ◌/◌, ◌<◌, ◌≤◌, ℕ, List, length, get_or, sym, subst, arith}
 use Rattle.std.proofs.lemmas.Option.{get_or_from_slice_get, slice_get_within}
-use Rattle.rail_net.specs.Parts.{IsTrack}
 use Rattle.rail_net.specs.declared.parts.NetParts.{NetParts}
 use Rattle.rail_net.proofs.ListLaws.{contains_at}
 use Rattle.timetable.specs.declared.parts.Timetable.{Timetable}

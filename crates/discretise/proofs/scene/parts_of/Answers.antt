@@ -1,6 +1,5 @@
 -- Why `parts_of` does what its contract says.
-use Rattle.std.proofs.Common.{◌≡◌, ◌+◌, ◌<◌, ◌≤◌, ◌^◌, ℕ, List, length, refl, sym, ap, subst, ◌∙◌, arith}
-use Rattle.std.specs.Prelude.{All}
+use Rattle.std.proofs.Common.{◌≡◌, ◌+◌, ◌≤◌, List, length, sym, ap, subst, ◌∙◌, arith}
 use Rattle.std.specs.List.{AllZip}
 use Rattle.cell_net.specs.declared.ids.CandidateId.{CandidateId}
 use Rattle.cell_net.specs.declared.ids.NodeId.{NodeId}
@@ -8,7 +7,7 @@ use Rattle.cell_net.specs.declared.parts.InstanceParts.{InstanceParts}
 use Rattle.rail_net.specs.declared.parts.NetParts.{NetParts}
 use Rattle.discretise.specs.Tracks.{AreGridTracks, cut_total}
 use Rattle.discretise.specs.Joins.{AreEndsByNode, AreJoins}
-use Rattle.discretise.specs.Places.{AreKeptPlaces, candidates_on}
+use Rattle.discretise.specs.Places.{AreKeptPlaces, nodes_of_candidates}
 use Rattle.discretise.specs.Stations.{IsStationOf}
 use Rattle.discretise.specs.Scenes.{AreParts}
 use Rattle.discretise.specs.Trains.{IsGridTrain}
@@ -58,7 +57,7 @@ kept_places-requires-clause-few c =
     let gs : List GridTrack = c.as_slice-tracks.result.now in
     let all : AreGridTracks p t gs = subst (AreGridTracks p t) (sym c.as_slice-tracks.ensures.value) c.requires.grid.tracks in
     let places : List NodeId = c.as_slice-places.result.now in
-    let are : places ≡ candidates_on c.args.grid.joints.items gs = c.as_slice-places.ensures.value ∙ (c.requires.grid.are_candidates ∙ ap (candidates_on c.args.grid.joints.items) (sym c.as_slice-tracks.ensures.value)) in
+    let are : places ≡ nodes_of_candidates c.args.grid.joints.items gs = c.as_slice-places.ensures.value ∙ (c.requires.grid.are_candidates ∙ ap (nodes_of_candidates c.args.grid.joints.items) (sym c.as_slice-tracks.ensures.value)) in
     let few : length places ≤ 512 = subst (λ (ns : List NodeId). length ns ≤ 512) (sym are) (few_candidates p t gs c.args.grid.joints.items net all c.requires.grid.are_joints c.requires.kept.1.0) in
     omega arith
 
@@ -71,7 +70,7 @@ kept_places-requires-clause-within c =
     let all : AreGridTracks p t gs = subst (AreGridTracks p t) (sym c.as_slice-tracks.ensures.value) c.requires.grid.tracks in
     let nodes : length c.parts-parts.result.now.nodes ≡ length p.nodes = ap (λ (q : NetParts). length q.nodes) c.parts-parts.ensures.parts in
     let places : List NodeId = c.as_slice-places.result.now in
-    let are : places ≡ candidates_on c.args.grid.joints.items gs = c.as_slice-places.ensures.value ∙ (c.requires.grid.are_candidates ∙ ap (candidates_on c.args.grid.joints.items) (sym c.as_slice-tracks.ensures.value)) in
+    let are : places ≡ nodes_of_candidates c.args.grid.joints.items gs = c.as_slice-places.ensures.value ∙ (c.requires.grid.are_candidates ∙ ap (nodes_of_candidates c.args.grid.joints.items) (sym c.as_slice-tracks.ensures.value)) in
     candidates_within p t gs c.args.grid.joints.items places (c.len.result + c.cut_total.result) all c.requires.grid.are_joints are (omega (arith, c.len.ensures, c.cut_total.ensures))
 
 pub stations_of-requires-clause-count : goal.stations_of-requires-clause-count
@@ -109,7 +108,7 @@ returns-clause-parts c =
     let ends : AreEndsByNode (length p.nodes) gs rows = subst (λ (hs : List GridTrack). AreEndsByNode (length p.nodes) hs rows) (sym c.as_slice-tracks.ensures.value)
     (subst (λ (es : List (List TrackEnd)). AreEndsByNode (length p.nodes) c.args.grid.tracks.items es) (sym c.as_slice-ends.ensures.value) c.requires.grid.are_ends) in
     let places : List NodeId = c.as_slice-places.result.now in
-    let are : places ≡ candidates_on c.args.grid.joints.items gs = c.as_slice-places.ensures.value ∙ (c.requires.grid.are_candidates ∙ ap (candidates_on c.args.grid.joints.items) (sym c.as_slice-tracks.ensures.value)) in
+    let are : places ≡ nodes_of_candidates c.args.grid.joints.items gs = c.as_slice-places.ensures.value ∙ (c.requires.grid.are_candidates ∙ ap (nodes_of_candidates c.args.grid.joints.items) (sym c.as_slice-tracks.ensures.value)) in
     let nodes : length c.parts-parts.result.now.nodes ≡ length p.nodes = ap (λ (q : NetParts). length q.nodes) c.parts-parts.ensures.parts in
     let kept : AreKeptPlaces p t gs c.from_vec-3.result c.from_vec-4.result =
     subst (λ (ks : List CandidateId). AreKeptPlaces p t gs c.from_vec-3.result ks) (sym c.from_vec-4.ensures)
@@ -132,7 +131,7 @@ returns-clause-parts c =
       sections = c.len-2.ensures ∙ ap (λ (q : NetParts). length q.sections) c.parts-parts.ensures.parts;
       cells = c.from_vec.ensures ∙ c.in_ok-cells.ensures;
       joins = subst (AreJoins p gs) (sym c.from_vec-2.ensures) c.in_ok-joins.ensures;
-      candidates = c.from_vec-3.ensures ∙ (c.requires.grid.are_candidates ∙ ap (candidates_on c.args.grid.joints.items) (sym c.as_slice-tracks.ensures.value));
+      candidates = c.from_vec-3.ensures ∙ (c.requires.grid.are_candidates ∙ ap (nodes_of_candidates c.args.grid.joints.items) (sym c.as_slice-tracks.ensures.value));
       kept = kept;
       stations = subst (AllZip (IsStationOf p gs) p.stations) (sym c.from_vec-5.ensures) c.in_ok-stations.ensures;
       trains = subst (AllZip (IsGridTrain gs t) t.trains) (sym c.from_vec-6.ensures) trains;

@@ -1,17 +1,16 @@
 -- Why `cells_of_station` does what its contract says.
-use Rattle.std.proofs.Common.{◌≡◌, ◌↔◌, ◌<◌, ◌+◌, ◌++◌, ℕ, Bool, true, false, IsTrue, List, [], ◌∷◌, length, take, get_or, Some, slice_get, refl, sym, ap, subst, ◌∙◌}
+use Rattle.std.proofs.Common.{◌≡◌, ◌↔◌, ◌<◌, ◌++◌, Bool, true, false, IsTrue, List, [], ◌∷◌, length, take, get_or, Some, refl, sym, ap, subst, ◌∙◌}
 use Rattle.std.specs.Prelude.{if◌then◌else◌}
 use Rattle.std.specs.List.{Contains, flat_map}
 use Rattle.std.proofs.lemmas.List.{append-nil, take_more}
 use Rattle.std.proofs.lemmas.Grind.{flat_map-append}
 use Rattle.std.proofs.lemmas.Option.{same_Some, slice_get-get_or}
 use Rattle.cell_net.specs.declared.ids.CellId.{CellId}
-use Rattle.rail_net.specs.Parts.{IsTrack, track_names}
+use Rattle.rail_net.specs.Parts.{IsTrack}
 use Rattle.rail_net.specs.declared.parts.GroupPart.{GroupPart}
 use Rattle.rail_net.specs.declared.parts.TrackPart.{TrackPart}
 use Rattle.rail_net.specs.declared.parts.NetParts.{NetParts}
 use Rattle.rail_net.proofs.ListLaws.{map_at, there_is}
-use Rattle.discretise.specs.Picks.{Picks}
 use Rattle.discretise.specs.Stations.{AreMarkedNames, IsStationOf, IsTrackOf, cell_ids}
 use Rattle.discretise.specs.Tracks.{no_track}
 use Rattle.discretise.specs.declared.tracks.GridTrack.{GridTrack}

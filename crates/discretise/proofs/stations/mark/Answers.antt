@@ -1,6 +1,5 @@
 -- Why `mark` does what its contract says.
-use Rattle.std.proofs.Common.{◌≡◌, ◌≢◌, ◌<◌, ◌⊎◌, inl, inr, ℕ, Bool, true, List, length, set, Some, slice_get, sym, subst, ap, ◌∙◌, refl}
-use Rattle.std.proofs.lemmas.Bool.{cases_eq}
+use Rattle.std.proofs.Common.{◌≡◌, ◌<◌, inl, inr, ℕ, Bool, true, List, length, set, Some, slice_get, sym, subst, ap, ◌∙◌}
 use Rattle.std.proofs.lemmas.List.{length-set, length-map}
 use Rattle.std.proofs.lemmas.Option.{same_Some, slice_get_within}
 use Rattle.rail_net.specs.Parts.{IsTrack, track_names}

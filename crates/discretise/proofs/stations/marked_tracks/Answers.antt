@@ -1,9 +1,8 @@
 -- Why `marked_tracks` does what its contract says.
-use Rattle.std.proofs.Common.{◌≡◌, ◌↔◌, ◌≢◌, ◌<◌, ◌≤◌, ◌+◌, ◌++◌, ◌⊎◌, inl, inr, ℕ, Bool, true, false, IsTrue, List, [], ◌∷◌, length, take, get_or, Some, slice_get, refl, sym, ap, subst, ◌∙◌, arith}
+use Rattle.std.proofs.Common.{◌≡◌, ◌<◌, ◌++◌, inl, inr, ℕ, Bool, true, List, [], ◌∷◌, length, take, get_or, sym, ap, subst, ◌∙◌}
 use Rattle.std.specs.List.{Contains}
-use Rattle.std.proofs.lemmas.List.{take_all, take_more}
+use Rattle.std.proofs.lemmas.List.{take_more}
 use Rattle.std.proofs.lemmas.List.Elements.{Contains-append_left, Contains-push, Contains-push_cases}
-use Rattle.rail_net.specs.Parts.{IsTrack}
 use Rattle.rail_net.specs.declared.parts.NetParts.{NetParts}
 use Rattle.discretise.specs.Stations.{AreMarkedNames, MarksName}
 use Rattle.discretise.proofs.stations.marked_tracks.Goals as goal

@@ -1,5 +1,5 @@
 -- One more station goes to the end.
-use Rattle.std.proofs.Common.{◌≡◌, ◌∙◌, List, ap, subst, sym}
+use Rattle.std.proofs.Common.{◌∙◌, List, ap, subst, sym}
 use Rattle.cell_net.specs.declared.ids.CellId.{CellId}
 use Rattle.rail_net.specs.declared.parts.NetParts.{NetParts}
 use Rattle.discretise.specs.Stations.{IsStationOf}

@@ -1,7 +1,6 @@
 -- Why `only_end` does what its contract says.
 use Rattle.std.proofs.Common.{◌≡◌, ◌<◌, ℕ, List, [], length, get_or, refl, sym, subst, ap, ◌∙◌, arith}
 use Rattle.std.proofs.lemmas.Option.{get_or_from_slice_get, slice_get_read}
-use Rattle.discretise.specs.Trains.{IsOneEnd}
 use Rattle.discretise.specs.declared.ends.TrackEnd.{TrackEnd}
 use Rattle.discretise.proofs.RowLemmas.{one_of}
 use Rattle.discretise.proofs.JoinLemmas.{no_end}

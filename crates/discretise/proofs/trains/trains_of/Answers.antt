@@ -1,8 +1,4 @@
 -- One more train goes to the end.
-use Rattle.std.proofs.Common.{◌≡◌, ◌<◌, ℕ, List, length, take, get_or, [], ◌∷◌, ◌++◌, refl, subst, sym, ap, ◌∙◌}
-use Rattle.std.specs.List.{AllZip}
-use Rattle.cell_net.specs.declared.trains.TrainSpec.{TrainSpec}
-use Rattle.timetable.specs.declared.parts.TrainPart.{TrainPart}
 use Rattle.discretise.specs.Trains.{IsTrainBetween}
 use Rattle.discretise.proofs.RowLemmas.{zip_read}
 use Rattle.discretise.proofs.trains.trains_of.Goals as goal

@@ -6,15 +6,15 @@ use Rattle.gap_clauses.proofs.GapLaws.{gaps_are, none_crowded}
 use Rattle.gap_clauses.proofs.MarkLemmas.{candidate_nodes}
 use Rattle.gap_clauses.proofs.build.kept.Goals as goal
 
-pub invariant_of-result : goal.invariant_of-result
-invariant_of-result c =
-    let same = c.in-Ok.ensures.items ∙ (c.as_slice.ensures ∙ ap (λ (p : InstanceParts). p.candidates) c.parts.ensures.parts) in
+pub build-requires : goal.build-requires
+build-requires c =
+    let same = c.as_slice.ensures ∙ ap (λ (p : InstanceParts). p.candidates) c.parts.ensures.parts in
     subst AreCandidateNodes (sym same) (candidate_nodes c.args.inst.now c.parts.ensures.rules)
 
 pub returns-in-Ok-clause-gaps : goal.returns-in-Ok-clause-gaps
 returns-in-Ok-clause-gaps c =
-    let same = c.in-Ok.ensures.items ∙ (c.as_slice.ensures ∙ ap (λ (p : InstanceParts). p.candidates) c.parts.ensures.parts) in
-    gaps_are c.args.inst.now c.in-Ok.candidates.items c.args.fans.items _ same c.requires refl
+    let same = c.in-Ok.ensures ∙ (c.as_slice.ensures ∙ ap (λ (p : InstanceParts). p.candidates) c.parts.ensures.parts) in
+    gaps_are c.args.inst.now c.in-Ok.candidates c.args.fans.items _ same c.requires refl
 
 pub returns-in-Ok-clause-few : goal.returns-in-Ok-clause-few
 returns-in-Ok-clause-few c = none_crowded c.args.inst.now c.args.fans.items c.requires

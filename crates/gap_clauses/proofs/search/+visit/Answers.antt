@@ -2,11 +2,12 @@
 use Rattle.std.proofs.Common.{◌≡◌, ◌+◌, ◌++◌, ◌∙◌, ℕ, List, length, refl, subst, sym, take, arith}
 use Rattle.std.specs.Prelude.{slice_range}
 use Rattle.std.proofs.lemmas.List.{take_all}
+use Rattle.cell_net.specs.Space.{IsCell}
 use Rattle.cell_net.specs.declared.parts.InstanceParts.{InstanceParts}
 use Rattle.gap_clauses.specs.Fans.{AreListed, FanParts, IsDone, all_over, nodes_at}
 use Rattle.gap_clauses.specs.Walks.{Step}
 use Rattle.gap_clauses.proofs.ListedLaws.{done_none}
-use Rattle.gap_clauses.proofs.SearchLemmas.{search_stop, stop_alike, visit_done, visit_leads, visit_on, visit_over, visit_ready, visit_smaller, visit_stays}
+use Rattle.gap_clauses.proofs.SearchLemmas.{search_stop, stop_alike, visit_done, visit_leads, visit_on, visit_over, visit_ready, visit_smaller, visit_stays, visit_walks}
 use Rattle.gap_clauses.proofs.search.+visit.Goals as goal
 use Rattle.gap_clauses.proofs.search.+visit.Goals.{then-begin-len+in-Ok-visit, else-begin-len}
 
@@ -20,8 +21,11 @@ loop-node-init t c = (refl, refl, take_all (length c.args.fan.now.walks) c.args.
 pub next_node-requires-clause-last : goal.next_node-requires-clause-last
 next_node-requires-clause-last t c = visit_leads c.args.search.now.inst.now c.loop-node.fan.first c.args.fan.now.first (IsDone (nodes_at c.args.fan.now.walks c.args.from) c.loop-node.below) c.loop-node.fan.walks c.loop-node.invariant.0 c.requires.first c.loop-node.invariant.3
 
-pub lengthen_all-requires-clause-last : goal.lengthen_all-requires-clause-last
-lengthen_all-requires-clause-last t c = visit_leads c.args.search.now.inst.now c.loop-node.fan.first c.args.fan.now.first (IsDone (nodes_at c.args.fan.now.walks c.args.from) c.loop-node.below) c.loop-node.fan.walks c.loop-node.invariant.0 c.requires.first c.loop-node.invariant.3
+pub lengthen_all-requires-clause-first : goal.lengthen_all-requires-clause-first
+lengthen_all-requires-clause-first t c = subst (IsCell c.args.search.now.inst.now) (sym c.loop-node.invariant.0) c.requires.first
+
+pub lengthen_all-requires-clause-walks : goal.lengthen_all-requires-clause-walks
+lengthen_all-requires-clause-walks t c = visit_walks c.args.search.now.inst.now c.loop-node.fan.first c.args.fan.now.first (IsDone (nodes_at c.args.fan.now.walks c.args.from) c.loop-node.below) c.loop-node.fan.walks c.loop-node.invariant.0 c.loop-node.invariant.3
 
 pub returns-in-Err-clause-err : goal.returns-in-Err-clause-err
 returns-in-Err-clause-err t c =

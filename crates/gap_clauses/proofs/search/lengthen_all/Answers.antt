@@ -1,10 +1,22 @@
 -- Why `lengthen_all` does what its contract says.
-use Rattle.std.proofs.Common.{◌≡◌, ◌+◌, ◌-◌, ◌++◌, ◌∙◌, List, take, ap, sym, arith}
+use Rattle.std.proofs.Common.{◌≡◌, ◌<◌, ◌+◌, ◌-◌, ◌++◌, ◌∙◌, List, [], length, take, ap, sym, subst, arith}
 use Rattle.std.specs.Prelude.{slice_range}
+use Rattle.cell_net.specs.Space.{IsCell}
+use Rattle.cell_net.specs.declared.parts.InstanceParts.{InstanceParts}
 use Rattle.gap_clauses.specs.Fans.{all_over, over, walk_at}
-use Rattle.gap_clauses.specs.Walks.{Step}
+use Rattle.gap_clauses.specs.Walks.{IsWalkFrom, Step}
 use Rattle.gap_clauses.proofs.SearchLemmas.{stop_alike, stop_within, walk_between, walk_kept, walks_more}
 use Rattle.gap_clauses.proofs.search.lengthen_all.Goals as goal
+
+pub lengthen_over-requires-clause-first : goal.lengthen_over-requires-clause-first
+lengthen_over-requires-clause-first c = subst (IsCell c.args.search.now.inst.now) (sym c.loop-place.invariant.0) c.requires.first
+
+pub lengthen_over-requires-clause-walk : goal.lengthen_over-requires-clause-walk
+lengthen_over-requires-clause-walk c =
+    let p : InstanceParts = c.args.search.now.inst.now in
+    let within : c.loop-place.place < length c.args.fan.now.walks = omega (arith, c.loop-place-test.true, c.requires.within) in
+    let kept = walk_kept c.args.fan.now.walks c.loop-place.fan.walks _ c.loop-place.place c.loop-place.invariant.2 within in
+    subst (λ e. IsWalkFrom p e (walk_at c.loop-place.fan.walks c.loop-place.place)) (sym c.loop-place.invariant.0) (subst (IsWalkFrom p c.args.fan.now.first) (sym kept) (c.requires.walks c.loop-place.place [] within))
 
 pub returns-in-Err-clause-err : goal.returns-in-Err-clause-err
 returns-in-Err-clause-err c =

@@ -1,5 +1,5 @@
 -- Why `fault_of` does what its contract says.
-use Rattle.std.proofs.Common.{arith, refl, rules}
+use Rattle.std.proofs.Common.{rules}
 use Rattle.vss_lists.specs.Orders.{IsFirstBroken}
 use Rattle.layout_rules.proofs.sweeps.fault_of.Goals as goal
 

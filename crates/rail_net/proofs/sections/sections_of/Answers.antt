@@ -5,7 +5,7 @@ use Rattle.std.proofs.lemmas.List.{length_push}
 use Rattle.rail_net.specs.Parts.{IsTrackOfSection, Lists}
 use Rattle.rail_net.specs.Entries.{AreValues, HasEntry}
 use Rattle.rail_net.specs.Refusals.{HasNewTracks}
-use Rattle.rail_net.specs.Rules.{IsListed}
+use Rattle.rail_net.specs.Rules.{IsOfSomeSection}
 use Rattle.rail_net.specs.Tables.{AreListings}
 use Rattle.rail_net.specs.declared.entries.Entry.{Entry}
 use Rattle.rail_net.specs.declared.parts.NetParts.{NetParts}
@@ -17,16 +17,16 @@ use Rattle.rail_net.proofs.sections.sections_of.Goals as goal
 
 -- a track that no entry is under isn't listed
 unlisted : (p : NetParts) (entries : List Entry) (place : ℕ) (t : TrackPart) → HasNewTracks p → AreListings p entries → slice_get p.tracks place ≡ Some t
-    → ((section : ℕ) → ¬ HasEntry entries place section) → ¬ IsListed p place t
-unfolding IsListed
+    → ((section : ℕ) → ¬ HasEntry entries place section) → ¬ IsOfSomeSection p place t
+unfolding IsOfSomeSection
 unlisted p entries place t new numbers is none (section, lists) =
     let entry = entry_of p entries section t.name numbers lists in
     let same : entry.0 ≡ place = same_number (λ (x : TrackPart). x.name) p.tracks new entry.0 place t.name entry.1 (map_at (λ (x : TrackPart). x.name) p.tracks place t is) in
     none section (subst (λ k. HasEntry entries k section) same entry.2)
 
 -- a track of a section is listed
-listed : (p : NetParts) (section place : ℕ) (t : TrackPart) → slice_get p.tracks place ≡ Some t → IsTrackOfSection p section place → IsListed p place t
-unfolding IsListed
+listed : (p : NetParts) (section place : ℕ) (t : TrackPart) → slice_get p.tracks place ≡ Some t → IsTrackOfSection p section place → IsOfSomeSection p place t
+unfolding IsOfSomeSection
 listed p section place t is of_section =
     let own : of_section.name ≡ t.name = same_Some of_section.name t.name (sym of_section.is_track ∙ map_at (λ (x : TrackPart). x.name) p.tracks place t is) in
     (section, subst (Lists p section) own of_section.listed)
@@ -81,9 +81,9 @@ loop-place-preserved c =
       count = ap length grown ∙ (length_push homes section ∙ ap (λ n. n + 1) c.loop-place.invariant.count);
       each = subst (λ hs. (track s : ℕ) → slice_get hs track ≡ Some s → IsTrackOfSection p s track) (sym grown)
           (homes_more p homes place section c.loop-place.invariant.count home c.loop-place.invariant.each);
-      listed = holds_next (IsListed p) p.tracks place c.loop-place.invariant.listed (λ t there. listed p section place t there home);
+      listed = holds_next (IsOfSomeSection p) p.tracks place c.loop-place.invariant.listed (λ t there. listed p section place t there home);
     }
 
 pub returns-clause-listed : goal.returns-clause-listed
 returns-clause-listed c =
-    holds_all (IsListed c.args.parts.now) c.args.parts.now.tracks c.loop-place.place (omega arith) c.loop-place.invariant.listed
+    holds_all (IsOfSomeSection c.args.parts.now) c.args.parts.now.tracks c.loop-place.place (omega arith) c.loop-place.invariant.listed

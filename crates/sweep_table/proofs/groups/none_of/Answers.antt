@@ -1,5 +1,5 @@
 -- Why `none_of` does what its contract says.
-use Rattle.std.proofs.Common.{◌≡◌, ◌+◌, ◌∙◌, [], List, length, ap}
+use Rattle.std.proofs.Common.{◌≡◌, ◌+◌, ◌∙◌, [], length, ap}
 use Rattle.std.proofs.lemmas.List.{length_push}
 use Rattle.std.proofs.lemmas.List.Elements.{All-push, All-same}
 use Rattle.sweep_table.proofs.groups.none_of.Goals as goal

@@ -1,5 +1,5 @@
 -- Why `is_open` does what its contract says.
-use Rattle.std.proofs.Common.{◌≡◌, ◌<◌, ◌∙◌, get_or, subst, sym}
+use Rattle.std.proofs.Common.{◌<◌, ◌∙◌, get_or, subst, sym}
 use Rattle.std.proofs.lemmas.Bool.{leb-false}
 use Rattle.sweep_table.specs.Reach.{reach_of}
 use Rattle.sweep_table.proofs.GrowLemmas.{branch_no}

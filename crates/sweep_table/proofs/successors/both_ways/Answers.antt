@@ -2,7 +2,6 @@
 use Rattle.std.proofs.Common.{◌≡◌, take, arith}
 use Rattle.std.proofs.lemmas.List.{take_more, take_all}
 use Rattle.cell_net.specs.declared.cells.End.TheVariants.{Low}
-use Rattle.cell_net.specs.declared.cells.CellEnd.{CellEnd}
 use Rattle.cell_net.specs.declared.cells.JoinSpec.{JoinSpec}
 use Rattle.sweep_table.proofs.SuccessionLemmas.{both_more}
 use Rattle.sweep_table.proofs.successors.both_ways.Goals as goal

@@ -1,7 +1,6 @@
 -- Why `successors_of` does what its contract says.
-use Rattle.std.proofs.Common.{◌≡◌, List, sym, subst}
+use Rattle.std.proofs.Common.{sym, subst}
 use Rattle.std.proofs.lemmas.Result.{IfOk-weaker}
-use Rattle.cell_net.specs.declared.cells.DirCell.{DirCell}
 use Rattle.sweep_table.specs.Growing.{AreAfter}
 use Rattle.sweep_table.proofs.SuccessionLemmas.{are_after, befores_within}
 use Rattle.sweep_table.proofs.successors.successors_of.Goals as goal

@@ -2,7 +2,7 @@
 use Rattle.std.proofs.Common.{◌∙◌, length, subst, arith}
 use Rattle.derivation_log.specs.Steps.{derived_steps}
 use Rattle.clause_encoder.specs.declared.task.Task.{Task}
-use Rattle.solver_face.proofs.SolvingLaws.{taken_at_first}
+use Rattle.solver_face.proofs.SolvingLaws.{numbers_used_at_first}
 use Rattle.task_driver.specs.Outcomes.{RefuteBound}
 use Rattle.task_driver.specs.TaskEnds.{AreFormulasOf}
 use Rattle.task_driver.proofs.EncodingLemmas.{all_clauses, are_formulas, clauses_are, decoded_within, few_clauses, first_asked, formulas_in, keeps_tables, satisfies_task, task_asked, vars_are, within_asked}
@@ -10,7 +10,7 @@ use Rattle.task_driver.proofs.OnceLemmas.{found_in, not_asked, refutes_alone, sp
 use Rattle.task_driver.proofs.once.search_in.Goals as goal
 
 pub solve-requires-clause-numbered : goal.solve-requires-clause-numbered
-solve-requires-clause-numbered g c = omega (arith, few_clauses c.args.inst.now c.args.bound c.args.formula c.args.map.now c.requires.encoded, taken_at_first (g.S.Solver.solving c.in_ok-solver.solver) c.args.formula.clauses c.in_ok-solver.ensures.formula c.in_ok-solver.ensures.nothing_yet, c.requires.budget)
+solve-requires-clause-numbered g c = omega (arith, few_clauses c.args.inst.now c.args.bound c.args.formula c.args.map.now c.requires.encoded, numbers_used_at_first (g.S.Solver.solving c.in_ok-solver.solver) c.args.formula.clauses c.in_ok-solver.ensures.formula c.in_ok-solver.ensures.nothing_yet, c.requires.budget)
 
 pub decode-requires-clause-kept : goal.decode-requires-clause-kept
 decode-requires-clause-kept g c = keeps_tables c.args.inst.now c.args.bound c.args.formula c.args.map.now c.requires.encoded

@@ -1,7 +1,7 @@
 -- Why `read_timetable` does what its contract says.
 use Rattle.std.proofs.Common.{refl}
 use Rattle.vss_json.proofs.DocumentLaws.{some_stated}
-use Rattle.timetable.specs.Document.{document}
+use Rattle.timetable.specs.Document.{timetable_document}
 use Rattle.timetable.proofs.TimetableLemmas.{timetable_kept}
 use Rattle.timetable.proofs.reader.read_timetable.Goals as goal
 
@@ -11,4 +11,4 @@ returns-in-Ok-test_rules-clause-timetable c =
     (record { space_step_m = refl; time_step_s = refl; horizon_s = refl; trains = c.in-Ok-test_rules.ensures.trains })
 
 pub returns-clause-reading : goal.returns-clause-reading
-returns-clause-reading c = some_stated document c.args.bytes.now c.in-Ok.entries c.in-Ok.ensures.read
+returns-clause-reading c = some_stated timetable_document c.args.bytes.now c.in-Ok.entries c.in-Ok.ensures.read

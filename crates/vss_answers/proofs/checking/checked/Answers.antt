@@ -1,5 +1,4 @@
 -- How the check ended is handed on.
-use Rattle.std.proofs.Common.{arith}
 use Rattle.vss_stages.proofs.StageLaws.{hands_value, hands_refusal, stops_by}
 use Rattle.vss_jobs.specs.Readings.{size_stop, checking}
 use Rattle.vss_jobs.specs.Settings.{setting_of}

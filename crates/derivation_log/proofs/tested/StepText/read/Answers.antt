@@ -1,5 +1,5 @@
 -- Why `StepText::read` does what its contract says.
-use Rattle.std.proofs.Common.{◌≡◌, sym, subst, refl}
+use Rattle.std.proofs.Common.{sym, subst, refl}
 use Rattle.derivation_log.specs.Tested.{IsTextOf}
 use Rattle.derivation_log.specs.Text.{IsLogNumber}
 use Rattle.derivation_log.specs.declared.step.Step.TheVariants.{Add, Drop}

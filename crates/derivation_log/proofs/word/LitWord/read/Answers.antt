@@ -1,6 +1,5 @@
 -- Why `LitWord::read` does what its contract says.
-use Rattle.std.proofs.Common.{◌≡◌, ◌∷◌, true, false, drop, refl, arith}
-use Rattle.std.specs.Prelude.{slice_index}
+use Rattle.std.proofs.Common.{◌≡◌, true, false, drop, refl, arith}
 use Rattle.std.proofs.lemmas.List.{take_rest}
 use Rattle.derivation_log.proofs.NumberLemmas.{negative_misses, positive_misses, begins}
 use Rattle.derivation_log.proofs.word.LitWord.read.Goals as goal

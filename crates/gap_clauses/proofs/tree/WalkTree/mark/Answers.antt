@@ -19,10 +19,10 @@ loop-at-preserved c =
     let some = c.loop-at-test.true in
     let low : b.before < c.loop-at.at = before_lower c.self.inside.branches.items c.args.self.now c.loop-at.at b c.self.invariant c.self.view_is (omega (arith, some)) c.loop-at.invariant.0 (sym c.index-branch.ensures) in
     let step = walk_step c.self.inside.branches.items c.args.self.now c.loop-at.at b c.self.invariant c.self.view_is (omega (arith, some)) c.loop-at.invariant.0 (sym c.index-branch.ensures) in
-    (omega (arith, low, c.loop-at.invariant.0), λ k h. marks_more c.args.candidates.now (walk_at c.args.self.now c.args.place) (walk_at c.args.self.now b.before) (walk_at c.args.self.now c.loop-at.at) (step_of b) k _ _ step (c.loop-at.invariant.1 k h) (λ d. c.mark_at.ensures k d h))
+    (omega (arith, low, c.loop-at.invariant.0), c.mark_at.ensures.span, λ k h. marks_more c.args.candidates.now (walk_at c.args.self.now c.args.place) (walk_at c.args.self.now b.before) (walk_at c.args.self.now c.loop-at.at) (step_of b) k _ _ step (c.loop-at.invariant.2 k h) (λ d. c.mark_at.ensures.marks k d h))
 
-pub returns : goal.returns
-returns c k h =
+pub returns-clause-marks : goal.returns-clause-marks
+returns-clause-marks c k h =
     let none : c.loop-at.at ≡ 0 = omega (arith, c.loop-at-test.false) in
     let first = ap (λ ws. walk_at ws 0) (sym c.self.view_is) ∙ walk_first c.self.inside.branches.items in
-    marks_all c.args.candidates.now (walk_at c.args.self.now c.args.place) (walk_at c.args.self.now c.loop-at.at) k _ (ap (walk_at c.args.self.now) none ∙ first) (c.loop-at.invariant.1 k h)
+    marks_all c.args.candidates.now (walk_at c.args.self.now c.args.place) (walk_at c.args.self.now c.loop-at.at) k _ (ap (walk_at c.args.self.now) none ∙ first) (c.loop-at.invariant.2 k h)

@@ -2,16 +2,16 @@
 use Rattle.std.proofs.Common.{◌≡◌, ◌+◌, [], ◌∷◌, ◌++◌, ap, arith, ◌∙◌}
 use Rattle.sat_core.specs.Search.{gives, log_of, units_of}
 use Rattle.sat_core.proofs.SearchLaws.{units_given, log_given}
-use Rattle.solver_face.specs.Solving.{Solving, taken}
+use Rattle.solver_face.specs.Solving.{Solving, numbers_used}
 use Rattle.plain_solver.specs.States.{events_of}
-use Rattle.plain_solver.proofs.StepLemmas.{taken_is, taken_unit, on_ok, on_either}
+use Rattle.plain_solver.proofs.StepLemmas.{numbers_used_is, numbers_used_unit, on_ok, on_either}
 use Rattle.plain_solver.proofs.solver.PlainSolverSolver.add_unit.Goals as goal
 
 pub give-given-requires-clause-numbered : goal.give-given-requires-clause-numbered
-give-given-requires-clause-numbered c = omega (arith, c.requires.numbered, taken_is c.self.inside.state c.self.inside.starved c.self.invariant, ap taken c.self.view_is)
+give-given-requires-clause-numbered c = omega (arith, c.requires.numbered, numbers_used_is c.self.inside.state c.self.inside.starved c.self.invariant, ap numbers_used c.self.view_is)
 
 pub returns-clause-numbers : goal.returns-clause-numbers
-returns-clause-numbers c = on_ok c.give-given.result _ _ (λ grew. taken_unit c.self.inside.state c.give-given.new.state c.args.lit c.self.inside.starved c.is_err-self-inside.result c.give-given.ensures.formula grew ∙ ap (λ n. n + 1) (ap taken c.self.view_is)) c.give-given.ensures.ok
+returns-clause-numbers c = on_ok c.give-given.result _ _ (λ grew. numbers_used_unit c.self.inside.state c.give-given.new.state c.args.lit c.self.inside.starved c.is_err-self-inside.result c.give-given.ensures.formula grew ∙ ap (λ n. n + 1) (ap numbers_used c.self.view_is)) c.give-given.ensures.ok
 
 pub returns-clause-units : goal.returns-clause-units
 returns-clause-units c = on_ok c.give-given.result _ _ (λ grew. ap units_of grew ∙ (units_given (events_of c.self.inside.state) c.args.lit ∙ ap (λ (s : Solving). units_of s.events ++ c.args.lit ∷ []) c.self.view_is)) c.give-given.ensures.ok

@@ -2,14 +2,14 @@
 use Rattle.std.proofs.Common.{◌≡◌, ◌+◌, [], ◌∷◌, ◌++◌, ap, ◌∙◌}
 use Rattle.sat_core.specs.Search.{gives, log_of, units_of}
 use Rattle.sat_core.proofs.SearchLaws.{units_given, log_given}
-use Rattle.solver_face.specs.Solving.{Solving, taken}
+use Rattle.solver_face.specs.Solving.{Solving, numbers_used}
 use Rattle.watch_solver.specs.Running.{watch_solving}
-use Rattle.watch_solver.proofs.SearchLemmas.{taken_given}
+use Rattle.watch_solver.proofs.SearchLemmas.{numbers_used_given}
 use Rattle.watch_solver.proofs.RoundLemmas.{on_ok, on_either}
 use Rattle.watch_solver.proofs.solver.WatchSolverSolver.add_unit.Goals as goal
 
 pub returns-clause-numbers : goal.returns-clause-numbers
-returns-clause-numbers c = on_ok c.give-given.result _ _ (λ grew. taken_given (watch_solving c.self.inside.state c.self.inside.starved) (watch_solving c.give-given.new.state c.is_err-self-inside.result) c.args.lit c.give-given.ensures.formula grew ∙ ap (λ n. n + 1) (ap taken c.self.view_is)) c.give-given.ensures.ok
+returns-clause-numbers c = on_ok c.give-given.result _ _ (λ grew. numbers_used_given (watch_solving c.self.inside.state c.self.inside.starved) (watch_solving c.give-given.new.state c.is_err-self-inside.result) c.args.lit c.give-given.ensures.formula grew ∙ ap (λ n. n + 1) (ap numbers_used c.self.view_is)) c.give-given.ensures.ok
 
 pub returns-clause-units : goal.returns-clause-units
 returns-clause-units c = on_ok c.give-given.result _ _ (λ grew. ap units_of grew ∙ (units_given c.self.inside.state.history c.args.lit ∙ ap (λ (s : Solving). units_of s.events ++ c.args.lit ∷ []) c.self.view_is)) c.give-given.ensures.ok

@@ -3,7 +3,7 @@ use Rattle.std.proofs.Common.{rules, ltb}
 use Rattle.std.proofs.lemmas.List.Sorted.{IsPartitionPoint-from_clause, IsPartitionedBy-ltb}
 use Rattle.cell_net.specs.declared.ids.NodeId.{NodeId}
 use Rattle.gap_clauses.proofs.MarkLemmas.{nodes_rise, point_from_tests}
-use Rattle.gap_clauses.proofs.marks.count_below.Goals as goal
+use Rattle.gap_clauses.proofs.candidates.count_below.Goals as goal
 
 pub returns-clause-split : goal.returns-clause-split
 returns-clause-split c =

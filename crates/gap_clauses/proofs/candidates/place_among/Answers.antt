@@ -1,9 +1,9 @@
--- Why `place_of` does what its contract says.
+-- Why `place_among` does what its contract says.
 use Rattle.std.proofs.Common.{◌∙◌, ap}
 use Rattle.std.proofs.lemmas.List.{get_or_default}
 use Rattle.cell_net.specs.declared.ids.NodeId.{NodeId}
 use Rattle.gap_clauses.proofs.MarkLemmas.{not_at_point}
-use Rattle.gap_clauses.proofs.marks.place_of.Goals as goal
+use Rattle.gap_clauses.proofs.candidates.place_among.Goals as goal
 
 pub returns-else-candidates-at : goal.returns-else-candidates-at
 returns-else-candidates-at c = not_at_point c.args.candidates.now c.args.node c.count_below-at.result c.requires c.count_below-at.ensures.split

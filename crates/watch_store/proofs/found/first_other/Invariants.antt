@@ -2,7 +2,7 @@
 use Rattle.std.specs.Prelude.{take}
 use Rattle.search_trail.specs.Trails.{known_of}
 use Rattle.watch_store.specs.Walking.{OthersFalse}
-use Rattle.watch_store.proofs.found.replacement.Given as goal
+use Rattle.watch_store.proofs.found.first_other.Given as goal
 
 abbrev pub invariant-loop-lit : goal.invariant-loop-lit
 invariant-loop-lit l = OthersFalse (known_of l.trail.entries) (take l.lit-index l.lits) l.partner
