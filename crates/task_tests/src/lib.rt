@@ -1,4 +1,4 @@
-//! Tests of the tasks over the plain solver, on rows of cells with trains that follow each other.
+//! Tests of the tasks over both solvers, on rows of cells with trains that follow each other, and on documents.
 #![tactic(auto)]
 
 #[cfg(test)]
