@@ -1,0 +1,2 @@
+-- What the contracts of `search_bounds` cite.
+pub mod Laws
