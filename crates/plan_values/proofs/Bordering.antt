@@ -19,14 +19,9 @@ use Rattle.clause_list.specs.Orders.{AreOver, AreWalksOver}
 use Rattle.clause_list.proofs.ListLaws.{first_place, in_range_is, length-below, at_below, below_take, both_true, same_number}
 use Rattle.clause_list.proofs.BorderLaws.{above_lower, section_member, same_section_back}
 use Rattle.plan_values.specs.Values.{stands, border_values, is_cut, gap_values}
-use Rattle.plan_values.specs.Meanings.{Is}
+use Rattle.plan_values.specs.Meanings.{Is, BordersMean}
 use Rattle.plan_values.proofs.Making.{this_one, other_one, make_true, make_false, here, later, make_any, make_each, make_one, make_where}
 use Rattle.plan_values.proofs.PartLaws.{IsPart, row_part, map_part, is_as}
-
--- the variables of borders and gaps have the values of their meanings
-pub record BordersMean (values : List Bool) (walks : ℕ → ℕ → List (List CandidateId)) (net : Network) (borders : List CandidateId) : Type 0 where
-  pub border : (c : ℕ) → c < net.candidates → Is values (border c) (stands borders c)
-  pub gap : (e f : ℕ) → e < length net.sections → Contains (above net e) f → Is values (gap net e f) (is_cut walks borders e f)
 
 sums_of : {X Y : Type 0} (f : X → List Y) (xs : List X) (i : ℕ) → sum_by length (take i (map f xs)) ≡ sum_by (λ x. length (f x)) (take i xs)
 sums_of f xs zero = refl

@@ -1,5 +1,5 @@
 -- Where the values of each kind and of each train stand among those of a task.
-use Rattle.std.proofs.Common.{◌≡◌, ℕ, zero, suc, ◌+◌, ◌<◌, Bool, List, [], ◌∷◌, length, get_or, map, ◌∙◌, arith, length-append}
+use Rattle.std.proofs.Common.{◌≡◌, ℕ, zero, suc, ◌+◌, ◌<◌, Bool, List, [], ◌∷◌, length, map, ◌∙◌, arith, length-append}
 use Rattle.std.proofs.lemmas.List.{length-map}
 use Rattle.cell_net.specs.declared.ids.CandidateId.{CandidateId}
 use Rattle.cell_net.specs.declared.parts.InstanceParts.{InstanceParts}
@@ -12,17 +12,10 @@ use Rattle.clause_list.specs.WholeList.{table_at, train_at}
 use Rattle.clause_list.specs.Orders.{IsNumbered}
 use Rattle.clause_list.proofs.ListLaws.{length-below}
 use Rattle.clause_list.proofs.RowLaws.{length-rows}
-use Rattle.plan_values.specs.Values.{ChainItems, border_values, is_cut, gap_values, stands, train_values, values_of_trains}
+use Rattle.plan_values.specs.Values.{ChainItems, chain_at, border_values, is_cut, gap_values, stands, train_values, values_of_trains}
 use Rattle.plan_values.proofs.PartLaws.{IsPart, front_part, back_part, part_at}
 use Rattle.plan_values.proofs.TrainMeaning.{length-train_values}
 use Rattle.plan_values.proofs.Bordering.{sums_all_of}
-
--- stands for a chain where there is none
-abbrev pub no_items : ChainItems
-no_items = record { from = 0; items = [] }
-
-abbrev pub items_at : List ChainItems → ℕ → ChainItems
-items_at chains i = get_or chains i no_items
 
 pub length-border_values : (net : Network) (borders : List CandidateId) → length (border_values net borders) ≡ net.candidates
 length-border_values net borders = length-map (below net.candidates) (stands borders) ∙ length-below net.candidates
@@ -31,7 +24,7 @@ pub length-gap_values : (walks : ℕ → ℕ → List (List CandidateId)) (net :
 length-gap_values walks net borders = length-rows (is_cut walks borders) 0 (map (above net) (below (length net.sections))) ∙ sums_all_of (above net) (below (length net.sections))
 
 -- the values of the train of a place
-pub train_part : (p : InstanceParts) (values : List Bool) (first vars : ℕ) (tables : List Table) (specs : List TrainSpec) (chains : List ChainItems) (i : ℕ) → length tables ≡ length specs → length chains ≡ length specs → ((k : ℕ) → k < length specs → IsNumbered vars (train_at (coded_from p first tables specs) k)) → IsPart values first (values_of_trains tables (coded_from p first tables specs) chains) → i < length specs → IsPart values (train_at (coded_from p first tables specs) i).first (train_values (table_at tables i) (train_at (coded_from p first tables specs) i) (items_at chains i).from (items_at chains i).items)
+pub train_part : (p : InstanceParts) (values : List Bool) (first vars : ℕ) (tables : List Table) (specs : List TrainSpec) (chains : List ChainItems) (i : ℕ) → length tables ≡ length specs → length chains ≡ length specs → ((k : ℕ) → k < length specs → IsNumbered vars (train_at (coded_from p first tables specs) k)) → IsPart values first (values_of_trains tables (coded_from p first tables specs) chains) → i < length specs → IsPart values (train_at (coded_from p first tables specs) i).first (train_values (table_at tables i) (train_at (coded_from p first tables specs) i) (chain_at chains i).from (chain_at chains i).items)
 train_part p values first vars [] [] chains i same alike numbered part within = absurd (omega arith)
 train_part p values first vars [] (spec ∷ specs) chains i same alike numbered part within = absurd (omega arith)
 train_part p values first vars (table ∷ tables) [] chains i same alike numbered part within = absurd (omega arith)

@@ -1,9 +1,9 @@
 -- The values of chains that are apart satisfy the clauses of a task.
-use Rattle.std.proofs.Common.{◌≡◌, ℕ, zero, suc, ◌+◌, ◌-◌, ◌<◌, Bool, List, [], ◌∷◌, ◌++◌, length, get_or, map, refl, sym, ap, subst, arith, Some, length-append}
+use Rattle.std.proofs.Common.{◌≡◌, ℕ, zero, suc, ◌+◌, ◌-◌, ◌<◌, Bool, List, [], ◌∷◌, ◌++◌, length, get_or, refl, sym, ap, ◌∙◌, subst, arith, Some, length-append}
 use Rattle.std.specs.Prelude.{AllPairs, slice_get}
 use Rattle.std.specs.List.{flat_map}
 use Rattle.std.proofs.lemmas.List.Elements.{All-nil, All-append}
-use Rattle.std.proofs.lemmas.Option.{slice_get-get_or, get_or_from_slice_get}
+use Rattle.std.proofs.lemmas.Option.{slice_get-get_or, get_or_from_slice_get, slice_get_within}
 use Rattle.sat_core.specs.declared.literal.Lit.{Lit}
 use Rattle.sat_core.specs.Clauses.{Satisfies, SatisfiesAll}
 use Rattle.cell_net.specs.Plans.{AreApart}
@@ -16,7 +16,6 @@ use Rattle.cell_net.specs.declared.plans.TrainRun.{TrainRun}
 use Rattle.cell_net.specs.declared.trains.TrainSpec.{TrainSpec}
 use Rattle.gap_clauses.specs.Gaps.{AreGaps}
 use Rattle.gap_clauses.specs.Laws.{CandidatesSeparate}
-use Rattle.sweep_table.specs.declared.ids.SweepId.{SweepId}
 use Rattle.sweep_table.specs.Tables.{Table, IsTable}
 use Rattle.clause_list.specs.Ranges.{below, from_below}
 use Rattle.clause_list.specs.Numbers.{CodedTrain, Network, first_of_trains, touch}
@@ -30,40 +29,38 @@ use Rattle.clause_list.specs.Orders.{IsNumbered, FitsTable, AreAllNumbered, AreW
 use Rattle.clause_list.proofs.ListLaws.{in_range_is}
 use Rattle.clause_list.proofs.CodedLaws.{coded_at, coded_are_numbered, length-coded_from}
 use Rattle.clause_list.proofs.WalkLaws.{walks_are_over}
-use Rattle.plan_laws.specs.Chains.{IsChain, IsChainRun, AreChains, sweep_of}
+use Rattle.plan_laws.specs.Chains.{IsChainRun, AreChains}
 use Rattle.plan_laws.specs.Satisfied.{AreTables}
-use Rattle.plan_values.specs.Values.{ChainItems, touches, border_values, gap_values, values_of_trains, base_values}
-use Rattle.plan_values.specs.Meanings.{Is, Means, IsChainOf}
+use Rattle.plan_values.specs.Values.{ChainItems, chain_at, touches, border_values, gap_values, values_of_trains, base_values, given_values}
+use Rattle.plan_values.specs.Meanings.{Is, Means, BordersMean, AllMean, IsChainOf, IsChainOfRun, AreChainsOfRuns}
+use Rattle.plan_values.specs.Laws.{RunsHaveChains}
 use Rattle.plan_values.proofs.Making.{make_each}
 use Rattle.plan_values.proofs.PartLaws.{IsPart, front_part, back_part, part_at}
 use Rattle.plan_values.proofs.TrainMeaning.{train_means}
 use Rattle.plan_values.proofs.Running.{enter_holds, go_on_holds, stay_ended_holds, gone_holds, touch_holds}
 use Rattle.plan_values.proofs.Stopping.{stop_met_holds, stop_in_run_holds, stand_holds, stop_after_entry_holds}
-use Rattle.plan_values.proofs.Bordering.{BordersMean, borders_mean, kept_holds, given_holds, gap_holds, apart_holds}
+use Rattle.plan_values.proofs.Bordering.{borders_mean, kept_holds, given_holds, gap_holds, apart_holds}
 use Rattle.plan_values.proofs.Choosing.{numbers_of, chain_of}
-use Rattle.plan_values.proofs.Placing.{items_at, length-border_values, length-gap_values, train_part, length-values_of_trains}
+use Rattle.plan_values.proofs.Placing.{length-border_values, length-gap_values, train_part, length-values_of_trains}
 use Rattle.plan_values.proofs.Parting.{keep_apart}
 
 -- stands for a train where there is none
 some_train : TrainSpec
 some_train = record { length = 0; advance = 0; entry = record { cell = record { 0 = 0 }; end = Low }; goal = record { cell = record { 0 = 0 }; end = Low }; start = 0; latest = 0; by = 0; stops = [] }
 
--- the chain of a train's run
+-- the chain of the run of a place
 record IsChosen (table : Table) (train : TrainSpec) (runs : List TrainRun) (i : ℕ) (c : ChainItems) : Type 0 where
   run : TrainRun
-  is : slice_get runs i ≡ Some run
-  ids : List SweepId
-  chain : IsChain table train run.start ids
-  sweeps : run.sweeps ≡ map (sweep_of table) ids
-  same : c ≡ record { from = run.start; items = numbers_of ids }
+  at : slice_get runs i ≡ Some run
+  of : IsChainOfRun table train run c
 
 -- chains for so many places
 record AreChosen (n : ℕ) (fits : ℕ → ChainItems → Type 0) : Type 0 where
   chains : List ChainItems
   count : length chains ≡ n
-  each : (i : ℕ) → i < n → fits i (items_at chains i)
+  each : (i : ℕ) → i < n → fits i (chain_at chains i)
 
-one_more : (fits : ℕ → ChainItems → Type 0) (n : ℕ) (c : ChainItems) (chains : List ChainItems) → fits 0 c → ((i : ℕ) → i < n → fits (suc i) (items_at chains i)) → (i : ℕ) → i < suc n → fits i (items_at (c ∷ chains) i)
+one_more : (fits : ℕ → ChainItems → Type 0) (n : ℕ) (c : ChainItems) (chains : List ChainItems) → fits 0 c → ((i : ℕ) → i < n → fits (suc i) (chain_at chains i)) → (i : ℕ) → i < suc n → fits i (chain_at (c ∷ chains) i)
 one_more fits n c chains here rest zero within = here
 one_more fits n c chains here rest (suc i) within = rest i (omega arith)
 
@@ -100,7 +97,7 @@ both : (values : List Bool) (family : List (List Lit)) (families : List (List (L
 both values family families one others = All-append (Satisfies values) family (flat_map (λ each. each) families) one others
 
 -- the families of gaps and trains hold, where the trains are ready
-plan_holds : (values : List Bool) (vars : ℕ) (walks : ℕ → ℕ → List (List CandidateId)) (net : Network) (tables : List Table) (trains : List CodedTrain) (borders : List CandidateId) (chains : List ChainItems) → BordersMean values walks net borders → AreWalksOver net walks → ((i : ℕ) → i < length trains → IsReady values vars (table_at tables i) (train_at trains i) (items_at chains i)) → ((i j : ℕ) → i < j → j < length trains → SatisfiesAll values (apart_clauses net (train_at trains i) (train_at trains j))) → SatisfiesAll values (whole (plan_families walks net tables trains))
+plan_holds : (values : List Bool) (vars : ℕ) (walks : ℕ → ℕ → List (List CandidateId)) (net : Network) (tables : List Table) (trains : List CodedTrain) (borders : List CandidateId) (chains : List ChainItems) → BordersMean values walks net borders → AreWalksOver net walks → ((i : ℕ) → i < length trains → IsReady values vars (table_at tables i) (train_at trains i) (chain_at chains i)) → ((i j : ℕ) → i < j → j < length trains → SatisfiesAll values (apart_clauses net (train_at trains i) (train_at trains j))) → SatisfiesAll values (whole (plan_families walks net tables trains))
 plan_holds values vars walks net tables trains borders chains mean over ready apart =
     let from_after_entry : List (List (List Lit)) = by_each_train stop_after_entry_clauses trains ∷ [] in
     let from_stands : List (List (List Lit)) = of_each_train stand_clauses tables trains ∷ from_after_entry in
@@ -113,20 +110,20 @@ plan_holds values vars walks net tables trains borders chains mean over ready ap
     let from_goes : List (List (List Lit)) = of_each_train go_on_clauses tables trains ∷ from_stays in
     let from_enters : List (List (List Lit)) = of_each_train enter_clauses tables trains ∷ from_goes in
     both values (gap_clauses walks net) from_enters (gap_holds values walks net borders mean over)
-    (both values (of_each_train enter_clauses tables trains) from_goes (each_train_holds values enter_clauses tables trains (λ i within. let r = ready i within in enter_holds values (table_at tables i) (train_at trains i) (items_at chains i).from (items_at chains i).items r.means r.chain r.numbered.enters_in_time))
-    (both values (of_each_train go_on_clauses tables trains) from_stays (each_train_holds values go_on_clauses tables trains (λ i within. let r = ready i within in go_on_holds values (table_at tables i) (train_at trains i) (items_at chains i).from (items_at chains i).items r.means r.chain))
-    (both values (by_each_train stay_ended_clauses trains) from_gones (each_numbers_hold values stay_ended_clauses trains (λ i within. stay_ended_holds values (table_at tables i) (train_at trains i) (items_at chains i).from (items_at chains i).items (ready i within).means))
-    (both values (by_each_train gone_clauses trains) from_touched (each_numbers_hold values gone_clauses trains (λ i within. gone_holds values (table_at tables i) (train_at trains i) (items_at chains i).from (items_at chains i).items (ready i within).means))
-    (both values (of_each_train touch_clauses tables trains) from_aparts (each_train_holds values touch_clauses tables trains (λ i within. let r = ready i within in touch_holds values (table_at tables i) (train_at trains i) (items_at chains i).from (items_at chains i).items r.means r.fits))
+    (both values (of_each_train enter_clauses tables trains) from_goes (each_train_holds values enter_clauses tables trains (λ i within. let r = ready i within in enter_holds values (table_at tables i) (train_at trains i) (chain_at chains i).from (chain_at chains i).items r.means r.chain r.numbered.enters_in_time))
+    (both values (of_each_train go_on_clauses tables trains) from_stays (each_train_holds values go_on_clauses tables trains (λ i within. let r = ready i within in go_on_holds values (table_at tables i) (train_at trains i) (chain_at chains i).from (chain_at chains i).items r.means r.chain))
+    (both values (by_each_train stay_ended_clauses trains) from_gones (each_numbers_hold values stay_ended_clauses trains (λ i within. stay_ended_holds values (table_at tables i) (train_at trains i) (chain_at chains i).from (chain_at chains i).items (ready i within).means))
+    (both values (by_each_train gone_clauses trains) from_touched (each_numbers_hold values gone_clauses trains (λ i within. gone_holds values (table_at tables i) (train_at trains i) (chain_at chains i).from (chain_at chains i).items (ready i within).means))
+    (both values (of_each_train touch_clauses tables trains) from_aparts (each_train_holds values touch_clauses tables trains (λ i within. let r = ready i within in touch_holds values (table_at tables i) (train_at trains i) (chain_at chains i).from (chain_at chains i).items r.means r.fits))
     (both values (apart_of_all net trains) from_mets (all_apart_hold values net trains apart)
-    (both values (by_each_train stop_met_clauses trains) from_in_runs (each_numbers_hold values stop_met_clauses trains (λ i within. let r = ready i within in stop_met_holds values (table_at tables i) (train_at trains i) (items_at chains i).from (items_at chains i).items r.means r.chain r.dwells))
-    (both values (by_each_train stop_in_run_clauses trains) from_stands (each_numbers_hold values stop_in_run_clauses trains (λ i within. let r = ready i within in stop_in_run_holds values (table_at tables i) (train_at trains i) (items_at chains i).from (items_at chains i).items r.means r.dwells))
-    (both values (of_each_train stand_clauses tables trains) from_after_entry (each_train_holds values stand_clauses tables trains (λ i within. stand_holds values (table_at tables i) (train_at trains i) (items_at chains i).from (items_at chains i).items (ready i within).means))
-    (both values (by_each_train stop_after_entry_clauses trains) [] (each_numbers_hold values stop_after_entry_clauses trains (λ i within. let r = ready i within in stop_after_entry_holds values (table_at tables i) (train_at trains i) (items_at chains i).from (items_at chains i).items r.means r.dwells))
+    (both values (by_each_train stop_met_clauses trains) from_in_runs (each_numbers_hold values stop_met_clauses trains (λ i within. let r = ready i within in stop_met_holds values (table_at tables i) (train_at trains i) (chain_at chains i).from (chain_at chains i).items r.means r.chain r.dwells))
+    (both values (by_each_train stop_in_run_clauses trains) from_stands (each_numbers_hold values stop_in_run_clauses trains (λ i within. let r = ready i within in stop_in_run_holds values (table_at tables i) (train_at trains i) (chain_at chains i).from (chain_at chains i).items r.means r.dwells))
+    (both values (of_each_train stand_clauses tables trains) from_after_entry (each_train_holds values stand_clauses tables trains (λ i within. stand_holds values (table_at tables i) (train_at trains i) (chain_at chains i).from (chain_at chains i).items (ready i within).means))
+    (both values (by_each_train stop_after_entry_clauses trains) [] (each_numbers_hold values stop_after_entry_clauses trains (λ i within. let r = ready i within in stop_after_entry_holds values (table_at tables i) (train_at trains i) (chain_at chains i).from (chain_at chains i).items r.means r.dwells))
     (All-nil (Satisfies values))))))))))))
 
 -- a train with its chain is ready, where its values stand in the valuation
-ready_of : (p : InstanceParts) (values : List Bool) (vars : ℕ) (tables : List Table) (chains : List ChainItems) (runs : List TrainRun) (i : ℕ) → IsInstance p → AreTables p tables → AreAllNumbered vars (network_of p) tables (trains_of p tables) → length chains ≡ length p.trains → IsPart values (first_of_trains (network_of p)) (values_of_trains tables (trains_of p tables) chains) → i < length p.trains → IsChosen (table_at tables i) (get_or p.trains i some_train) runs i (items_at chains i) → IsReady values vars (table_at tables i) (train_at (trains_of p tables) i) (items_at chains i)
+ready_of : (p : InstanceParts) (values : List Bool) (vars : ℕ) (tables : List Table) (chains : List ChainItems) (runs : List TrainRun) (i : ℕ) → IsInstance p → AreTables p tables → AreAllNumbered vars (network_of p) tables (trains_of p tables) → length chains ≡ length p.trains → IsPart values (first_of_trains (network_of p)) (values_of_trains tables (trains_of p tables) chains) → i < length p.trains → IsChosen (table_at tables i) (get_or p.trains i some_train) runs i (chain_at chains i) → IsReady values vars (table_at tables i) (train_at (trains_of p tables) i) (chain_at chains i)
 ready_of p values vars tables chains runs i rules are numbered count part within chosen =
     let trains : List CodedTrain = trains_of p tables in
     let size : length trains ≡ length p.trains = length-coded_from p (first_of_trains (network_of p)) tables p.trains are.for_each in
@@ -135,13 +132,13 @@ ready_of p values vars tables chains runs i rules are numbered count part within
     let train : TrainSpec = get_or p.trains i some_train in
     let good : IsGoodTrain p i train = rules.trains.at_each i train (slice_get-get_or p.trains i some_train within) in
     let table_rules : IsTable p table = are.each i no_table (omega (arith, are.for_each)) in
-    let chain : IsChainOf table (coded p at.from table train) chosen.run.start (numbers_of chosen.ids) = chain_of p at.from table train chosen.run.start chosen.ids table_rules chosen.chain in
-    let moved : IsChainOf table (coded p at.from table train) (items_at chains i).from (items_at chains i).items = subst (λ (c : ChainItems). IsChainOf table (coded p at.from table train) c.from c.items) (sym chosen.same) chain in
+    let chain : IsChainOf table (coded p at.from table train) chosen.run.start (numbers_of chosen.of.ids) = chain_of p at.from table train chosen.run.start chosen.of.ids table_rules chosen.of.chain in
+    let moved : IsChainOf table (coded p at.from table train) (chain_at chains i).from (chain_at chains i).items = subst (λ (c : ChainItems). IsChainOf table (coded p at.from table train) c.from c.items) (sym chosen.of.is) chain in
     record {
       numbered = numbered.each i (omega arith);
       fits = numbered.fit i (omega arith);
-      means = train_means values table (train_at trains i) (items_at chains i).from (items_at chains i).items vars (numbered.each i (omega arith)) (train_part p values (first_of_trains (network_of p)) vars tables p.trains chains i are.for_each count (λ k inside. numbered.each k (omega arith)) part within);
-      chain = subst (λ a. IsChainOf table a (items_at chains i).from (items_at chains i).items) (sym at.is) moved;
+      means = train_means values table (train_at trains i) (chain_at chains i).from (chain_at chains i).items vars (numbered.each i (omega arith)) (train_part p values (first_of_trains (network_of p)) vars tables p.trains chains i are.for_each count (λ k inside. numbered.each k (omega arith)) part within);
+      chain = subst (λ a. IsChainOf table a (chain_at chains i).from (chain_at chains i).items) (sym at.is) moved;
       dwells = subst (λ (a : CodedTrain). (k : ℕ) → k < length a.stops → 0 < (stop_at a k).dwell) (sym at.is) (λ k inside. (good.stops k no_stop inside).stands);
     }
 
@@ -176,39 +173,59 @@ length-base_values p gaps tables borders chains vars are numbered count =
     let all : first + length of_trains ≡ first_of_count p tables = length-values_of_trains p first vars tables p.trains chains are.for_each count (λ k inside. numbered.each k (omega arith)) in
     omega (arith, length-append of_borders (of_gaps ++ of_trains), length-append of_gaps of_trains, length-border_values net borders, length-gap_values (walks_in gaps) net borders)
 
--- the chains of a plan
-chosen_of : (p : InstanceParts) (borders : List CandidateId) (tables : List Table) (plan : Plan) → AreChains p borders tables plan → AreChosen (length p.trains) (λ i c. IsChosen (table_at tables i) (get_or p.trains i some_train) plan.runs i c)
-chosen_of p borders tables plan chains = choose (length p.trains) (λ i c. IsChosen (table_at tables i) (get_or p.trains i some_train) plan.runs i c) (λ i within.
+-- the runs of chains have chains
+pub runs_have_chains : (p : InstanceParts) (tables : List Table) (borders : List CandidateId) (plan : Plan) → RunsHaveChains p tables borders plan
+runs_have_chains p tables borders plan chains =
+    let no_run : TrainRun = record { start = 0; sweeps = [] } in
+    let chosen = choose (length p.trains) (λ i c. IsChosen (table_at tables i) (get_or p.trains i some_train) plan.runs i c) (λ i within.
     let train : TrainSpec = get_or p.trains i some_train in
-    let run : TrainRun = get_or plan.runs i (record { start = 0; sweeps = [] }) in
-    let there : slice_get plan.runs i ≡ Some run = slice_get-get_or plan.runs i (record { start = 0; sweeps = [] }) (omega (arith, chains.for_each)) in
+    let run : TrainRun = get_or plan.runs i no_run in
+    let there : slice_get plan.runs i ≡ Some run = slice_get-get_or plan.runs i no_run (omega (arith, chains.for_each)) in
     let of : IsChainRun (table_at tables i) train run = chains.each i train run (slice_get-get_or p.trains i some_train within) there in
-    (record { from = run.start; items = numbers_of of.items }, record { run = run; is = there; ids = of.items; chain = of.chain; sweeps = of.touches; same = refl }))
+    (record { from = run.start; items = numbers_of of.items }, record { run = run; at = there; of = record { ids = of.items; chain = of.chain; touches = of.touches; is = refl } })) in (
+      chosen.chains,
+      record {
+        for_each = chosen.count;
+        each = λ i train r is_train is_run.
+            let this = chosen.each i (slice_get_within p.trains i train is_train) in
+            let same_run : this.run ≡ r = sym (get_or_from_slice_get plan.runs i this.run no_run this.at) ∙ get_or_from_slice_get plan.runs i r no_run is_run in
+            subst (λ s. IsChainOfRun (table_at tables i) s r (chain_at chosen.chains i)) (get_or_from_slice_get p.trains i train some_train is_train)
+            (subst (λ s. IsChainOfRun (table_at tables i) (get_or p.trains i some_train) s (chain_at chosen.chains i)) same_run this.of);
+      },
+    )
+
+-- the chain of a place is that of the run there
+chosen_at : (p : InstanceParts) (borders : List CandidateId) (tables : List Table) (plan : Plan) (chains : List ChainItems) (i : ℕ) → AreChains p borders tables plan → AreChainsOfRuns p tables plan chains → i < length p.trains → IsChosen (table_at tables i) (get_or p.trains i some_train) plan.runs i (chain_at chains i)
+chosen_at p borders tables plan chains i are of_runs within =
+    let run : TrainRun = get_or plan.runs i (record { start = 0; sweeps = [] }) in
+    let there : slice_get plan.runs i ≡ Some run = slice_get-get_or plan.runs i (record { start = 0; sweeps = [] }) (omega (arith, are.for_each)) in
+    record { run = run; at = there; of = of_runs.each i (get_or p.trains i some_train) run (slice_get-get_or p.trains i some_train within) there }
 
 -- two trains' clauses hold, where their runs are apart
-pair_holds : (p : InstanceParts) (values : List Bool) (vars : ℕ) (gaps : List (List (List (List CandidateId)))) (tables : List Table) (borders : List CandidateId) (chains : List ChainItems) (runs : List TrainRun) (i j : ℕ) → BordersMean values (walks_in gaps) (network_of p) borders → CandidatesSeparate p borders gaps → AllPairs (AreApart p borders) runs → AreAllNumbered vars (network_of p) tables (trains_of p tables) → i < j → j < length (trains_of p tables) → j < length runs → IsReady values vars (table_at tables i) (train_at (trains_of p tables) i) (items_at chains i) → IsReady values vars (table_at tables j) (train_at (trains_of p tables) j) (items_at chains j) → IsChosen (table_at tables i) (get_or p.trains i some_train) runs i (items_at chains i) → IsChosen (table_at tables j) (get_or p.trains j some_train) runs j (items_at chains j) → SatisfiesAll values (apart_clauses (network_of p) (train_at (trains_of p tables) i) (train_at (trains_of p tables) j))
+pair_holds : (p : InstanceParts) (values : List Bool) (vars : ℕ) (gaps : List (List (List (List CandidateId)))) (tables : List Table) (borders : List CandidateId) (chains : List ChainItems) (runs : List TrainRun) (i j : ℕ) → BordersMean values (walks_in gaps) (network_of p) borders → CandidatesSeparate p borders gaps → AllPairs (AreApart p borders) runs → AreAllNumbered vars (network_of p) tables (trains_of p tables) → i < j → j < length (trains_of p tables) → j < length runs → IsReady values vars (table_at tables i) (train_at (trains_of p tables) i) (chain_at chains i) → IsReady values vars (table_at tables j) (train_at (trains_of p tables) j) (chain_at chains j) → IsChosen (table_at tables i) (get_or p.trains i some_train) runs i (chain_at chains i) → IsChosen (table_at tables j) (get_or p.trains j some_train) runs j (chain_at chains j) → SatisfiesAll values (apart_clauses (network_of p) (train_at (trains_of p tables) i) (train_at (trains_of p tables) j))
 pair_holds p values vars gaps tables borders chains runs i j mean law pairs numbered less within in_runs one other chosen chosen_too =
     let a : CodedTrain = train_at (trains_of p tables) i in
     let b : CodedTrain = train_at (trains_of p tables) j in
-    let first_run : get_or runs i chosen.run ≡ chosen.run = get_or_from_slice_get runs i chosen.run chosen.run chosen.is in
-    let second_run : get_or runs j chosen.run ≡ chosen_too.run = get_or_from_slice_get runs j chosen_too.run chosen.run chosen_too.is in
+    let first_run : get_or runs i chosen.run ≡ chosen.run = get_or_from_slice_get runs i chosen.run chosen.run chosen.at in
+    let second_run : get_or runs j chosen.run ≡ chosen_too.run = get_or_from_slice_get runs j chosen_too.run chosen.run chosen_too.at in
     let are_apart : AreApart p borders chosen.run chosen_too.run = subst (λ r. AreApart p borders r chosen_too.run) first_run (subst (AreApart p borders (get_or runs i chosen.run)) second_run (pairs i j chosen.run less in_runs)) in
-    let keep = keep_apart p borders gaps (table_at tables i) (table_at tables j) chosen.run chosen_too.run chosen.ids chosen_too.ids law are_apart chosen.sweeps chosen_too.sweeps in
+    let keep = keep_apart p borders gaps (table_at tables i) (table_at tables j) chosen.run chosen_too.run chosen.of.ids chosen_too.of.ids law are_apart chosen.of.touches chosen_too.of.touches in
     let cells : a.cells ≡ length (network_of p).sections = numbered.cells i (omega arith) in
     let cells_too : b.cells ≡ length (network_of p).sections = numbered.cells j within in
-    apart_holds values (walks_in gaps) (network_of p) borders a b (touches (table_at tables i) chosen.run.start (numbers_of chosen.ids)) (touches (table_at tables j) chosen_too.run.start (numbers_of chosen_too.ids)) mean
-    (λ t e h k few. subst (λ (c : ChainItems). Is values (touch a t e) (touches (table_at tables i) c.from c.items t e)) chosen.same (one.means.touch t e h k (omega arith)))
-    (λ t e h k few. subst (λ (c : ChainItems). Is values (touch b t e) (touches (table_at tables j) c.from c.items t e)) chosen_too.same (other.means.touch t e h k (omega arith)))
+    apart_holds values (walks_in gaps) (network_of p) borders a b (touches (table_at tables i) chosen.run.start (numbers_of chosen.of.ids)) (touches (table_at tables j) chosen_too.run.start (numbers_of chosen_too.of.ids)) mean
+    (λ t e h k few. subst (λ (c : ChainItems). Is values (touch a t e) (touches (table_at tables i) c.from c.items t e)) chosen.of.is (one.means.touch t e h k (omega arith)))
+    (λ t e h k few. subst (λ (c : ChainItems). Is values (touch b t e) (touches (table_at tables j) c.from c.items t e)) chosen_too.of.is (other.means.touch t e h k (omega arith)))
     keep
 
--- what the values of chains do
-pub record IsSatisfiedBy (p : InstanceParts) (gaps : List (List (List (List CandidateId)))) (tables : List Table) (borders : List CandidateId) (base : List Bool) : Type 0 where
-  pub size : length base ≡ first_of_count p tables - 1
-  pub given : (values : List Bool) → IsPart values 1 base → SatisfiesAll values (whole (given_families (walks_in gaps) (network_of p) tables (trains_of p tables) borders))
-  pub free : (values : List Bool) → IsPart values 1 base → SatisfiesAll values (whole (base_families (walks_in gaps) (network_of p) tables (trains_of p tables)))
+-- what the values of chains do, in each valuation that begins with them
+pub record AreSatisfying (p : InstanceParts) (gaps : List (List (List (List CandidateId)))) (tables : List Table) (borders : List CandidateId) (chains : List ChainItems) : Type 0 where
+  pub size : length (given_values p gaps tables borders chains) ≡ first_of_count p tables - 1
+  pub mean : (values : List Bool) → IsPart values 1 (given_values p gaps tables borders chains) → AllMean values p gaps tables borders chains
+  pub given : (values : List Bool) → IsPart values 1 (given_values p gaps tables borders chains) → SatisfiesAll values (whole (given_families (walks_in gaps) (network_of p) tables (trains_of p tables) borders))
+  pub free : (values : List Bool) → IsPart values 1 (given_values p gaps tables borders chains) → SatisfiesAll values (whole (base_families (walks_in gaps) (network_of p) tables (trains_of p tables)))
 
-pub satisfied : (p : InstanceParts) (gaps : List (List (List (List CandidateId)))) (tables : List Table) (borders : List CandidateId) (plan : Plan) → IsInstance p → AreGaps p gaps → AreTables p tables → AreChains p borders tables plan → CandidatesSeparate p borders gaps → (base : List Bool) × IsSatisfiedBy p gaps tables borders base
-satisfied p gaps tables borders plan rules gap_rules are chains law =
+pub satisfied : (p : InstanceParts) (gaps : List (List (List (List CandidateId)))) (tables : List Table) (borders : List CandidateId) (plan : Plan) (chains : List ChainItems) → IsInstance p → AreGaps p gaps → AreTables p tables → AreChains p borders tables plan → AreChainsOfRuns p tables plan chains → CandidatesSeparate p borders gaps → AreSatisfying p gaps tables borders chains
+satisfied p gaps tables borders plan chains rules gap_rules are are_chains of_runs law =
     let net : Network = network_of p in
     let walks : ℕ → ℕ → List (List CandidateId) = walks_in gaps in
     let trains : List CodedTrain = trains_of p tables in
@@ -216,16 +233,15 @@ satisfied p gaps tables borders plan rules gap_rules are chains law =
     let numbered : AreAllNumbered vars net tables trains = coded_are_numbered p tables vars rules are.for_each are.each (omega arith) in
     let over : AreWalksOver net walks = walks_are_over p gaps gap_rules in
     let count : length trains ≡ length p.trains = length-coded_from p (first_of_trains net) tables p.trains are.for_each in
-    let chosen = chosen_of p borders tables plan chains in
-    let base : List Bool = base_values walks net tables trains borders chosen.chains in
-    let ready = λ (values : List Bool) (part : IsPart values 1 base) (i : ℕ) (within : i < length trains). ready_of p values vars tables chosen.chains plan.runs i rules are numbered chosen.count (task_parts values p gaps tables borders chosen.chains part).trains_at (omega arith) (chosen.each i (omega arith)) in
-    let mean = λ (values : List Bool) (part : IsPart values 1 base). borders_mean values walks net borders (task_parts values p gaps tables borders chosen.chains part).borders_at (task_parts values p gaps tables borders chosen.chains part).gaps_at in
-    let families = λ (values : List Bool) (part : IsPart values 1 base). plan_holds values vars walks net tables trains borders chosen.chains (mean values part) over (ready values part)
-    (λ i j less within. pair_holds p values vars gaps tables borders chosen.chains plan.runs i j (mean values part) law chains.apart numbered less within (omega (arith, chains.for_each)) (ready values part i (omega arith)) (ready values part j within) (chosen.each i (omega arith)) (chosen.each j (omega arith))) in (
-      base,
-      record {
-        size = length-base_values p gaps tables borders chosen.chains vars are numbered chosen.count;
-        given = λ values part. both values (given_clauses net borders) (plan_families walks net tables trains) (given_holds values walks net borders (mean values part)) (families values part);
-        free = λ values part. both values (kept_clauses net) (plan_families walks net tables trains) (kept_holds values walks net borders (mean values part) numbered.kept chains.layout.holds_kept) (families values part);
-      },
-    )
+    let base : List Bool = given_values p gaps tables borders chains in
+    let chosen = λ (i : ℕ) (within : i < length p.trains). chosen_at p borders tables plan chains i are_chains of_runs within in
+    let ready = λ (values : List Bool) (part : IsPart values 1 base) (i : ℕ) (within : i < length trains). ready_of p values vars tables chains plan.runs i rules are numbered of_runs.for_each (task_parts values p gaps tables borders chains part).trains_at (omega arith) (chosen i (omega arith)) in
+    let mean = λ (values : List Bool) (part : IsPart values 1 base). borders_mean values walks net borders (task_parts values p gaps tables borders chains part).borders_at (task_parts values p gaps tables borders chains part).gaps_at in
+    let families = λ (values : List Bool) (part : IsPart values 1 base). plan_holds values vars walks net tables trains borders chains (mean values part) over (ready values part)
+    (λ i j less within. pair_holds p values vars gaps tables borders chains plan.runs i j (mean values part) law are_chains.apart numbered less within (omega (arith, are_chains.for_each)) (ready values part i (omega arith)) (ready values part j within) (chosen i (omega arith)) (chosen j (omega arith))) in
+    record {
+      size = length-base_values p gaps tables borders chains vars are numbered of_runs.for_each;
+      mean = λ values part. record { borders_mean = mean values part; trains_mean = λ i within. (ready values part i (omega arith)).means };
+      given = λ values part. both values (given_clauses net borders) (plan_families walks net tables trains) (given_holds values walks net borders (mean values part)) (families values part);
+      free = λ values part. both values (kept_clauses net) (plan_families walks net tables trains) (kept_holds values walks net borders (mean values part) numbered.kept are_chains.layout.holds_kept) (families values part);
+    }

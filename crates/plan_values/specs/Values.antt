@@ -1,14 +1,18 @@
 -- The values that a layout and chains of trains give to the variables of a task.
-use Rattle.std.specs.Prelude.{ℕ, ◌+◌, ◌-◌, Bool, ◌&&◌, nat_le, nat_lt, nat_eq, List, [], ◌∷◌, ◌++◌, length, map, slice_index}
+use Rattle.std.specs.Prelude.{ℕ, ◌+◌, ◌-◌, Bool, ◌&&◌, nat_le, nat_lt, nat_eq, List, [], ◌∷◌, ◌++◌, length, map, slice_index, slice_index_or}
 use Rattle.std.specs.List.{list_any, list_all}
+use Rattle.border_counter.specs.Counter.{counted}
 use Rattle.cell_net.specs.declared.ids.CandidateId.{CandidateId}
+use Rattle.cell_net.specs.declared.parts.InstanceParts.{InstanceParts}
 use Rattle.cell_net.specs.declared.trains.StopSpec.{StopSpec}
 use Rattle.sweep_table.specs.Tables.{Table, cells_of, stands_in}
+use Rattle.clause_list.specs.BorderClauses.{border_lits}
+use Rattle.clause_list.specs.Coding.{network_of, trains_of, walks_in}
 use Rattle.clause_list.specs.Ranges.{below, from_below, from_to}
 use Rattle.clause_list.specs.Numbers.{CodedTrain, Network, above, beginnings, steps}
 use Rattle.clause_list.specs.Rows.{rows}
 
--- ChainItems, by their numbers, stand at the steps from x on.
+-- Items of a chain, by their numbers, stand at the steps from x on.
 
 -- there is one at the step
 abbrev pub has_step : ℕ → List ℕ → ℕ → Bool
@@ -77,6 +81,14 @@ pub record ChainItems : Type 0 where
   pub from : ℕ
   pub items : List ℕ
 
+-- stands for a chain where there is none
+abbrev pub no_chain : ChainItems
+no_chain = record { from = 0; items = [] }
+
+-- the chain of the train of that place
+abbrev pub chain_at : List ChainItems → ℕ → ChainItems
+chain_at chains i = slice_index_or chains i no_chain
+
 -- the values of the trains' variables, train by train
 abbrev pub values_of_trains : List Table → List CodedTrain → List ChainItems → List Bool
 values_of_trains [] trains chains = []
@@ -87,3 +99,11 @@ values_of_trains (table ∷ tables) (a ∷ trains) (c ∷ chains) = train_values
 -- the values of all variables, but for those of the counter
 abbrev pub base_values : (ℕ → ℕ → List (List CandidateId)) → Network → List Table → List CodedTrain → List CandidateId → List ChainItems → List Bool
 base_values walks net tables trains borders chains = border_values net borders ++ (gap_values walks net borders ++ values_of_trains tables trains chains)
+
+-- the values of all variables of the task of a layout
+abbrev pub given_values : InstanceParts → List (List (List (List CandidateId))) → List Table → List CandidateId → List ChainItems → List Bool
+given_values p gaps tables borders chains = base_values (walks_in gaps) (network_of p) tables (trains_of p tables) borders chains
+
+-- and of a free task: behind them those of the counter, row by row
+abbrev pub free_values : InstanceParts → List (List (List (List CandidateId))) → List Table → List CandidateId → List ChainItems → List Bool
+free_values p gaps tables borders chains = given_values p gaps tables borders chains ++ counted (given_values p gaps tables borders chains) (border_lits (length p.candidates)) (length p.candidates)
